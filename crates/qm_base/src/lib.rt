@@ -1,0 +1,11 @@
+//! What several crates speak of: texts, shared values, a history that contracts alone see,
+//! prefixes of lists, counts of faults, and the search for pieces from the front of a list.
+#![tactic(auto)]
+
+pub mod history;
+pub mod shared;
+pub mod text;
+
+pub use history::History;
+pub use shared::Shared;
+pub use text::{NoMemory, Text};

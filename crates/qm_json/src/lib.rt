@@ -1,0 +1,6 @@
+//! JSON values and their printed text (RFC 8259).
+#![tactic(auto)]
+
+pub mod value;
+
+pub use value::{Json, Member};
