@@ -1,4 +1,5 @@
 pub mod Faults
 pub mod Histories
 pub mod Prefixes
+pub mod Reserving
 pub mod Search

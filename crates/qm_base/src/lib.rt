@@ -3,9 +3,11 @@
 #![tactic(auto)]
 
 pub mod history;
+pub mod reserved;
 pub mod shared;
 pub mod text;
 
 pub use history::History;
+pub use reserved::ReservedList;
 pub use shared::Shared;
 pub use text::{NoMemory, Text};

@@ -1,13 +1,20 @@
-// A library with one function.
+//! The monitor: its journal, the steps that add to it, and the laws of every legal journal
+//! (QMP specification, "Protocol Specification").
 #![tactic(auto)]
 
-ghost use Rattle.std.specs.Prelude.{◌≡◌};
-ghost use Rattle.qm_core.specs.Echo.{echo_of};
+pub mod entries;
+pub mod inputs;
+pub mod lines;
+pub mod monitor;
+pub mod requests;
+pub mod verdicts;
 
-// The `ensures` clause is the contract: what `echo` returns is `echo_of` of its argument, a definition
-// in `specs/Echo.antt`, which a caller's clause can cite too.
-pub fn echo(x: usize) -> usize
-    ensures { result ≡ echo_of x }
-{
-    x
-}
+pub use entries::{Cause, Entry, StepFault};
+pub use inputs::{BadInput, FrameWord, Input, JsonWord};
+pub use lines::LineList;
+pub use monitor::Limits;
+pub use requests::{Request, Started};
+pub use verdicts::{Class, Command, Refusal, Verdict};
+
+/// How many sessions may ever be opened.
+pub const MOST_SESSIONS: u32 = 65_535;
