@@ -1,0 +1,5 @@
+pub mod Bytes
+pub mod Framed
+pub mod Framing
+pub mod Messages
+pub mod Pieces
