@@ -1,1 +1,5 @@
+mod FramingLemmas
+mod Growth
+mod PieceLemmas
+mod Positions
 mod Rows

@@ -1,6 +1,6 @@
 -- The definitions at worked examples: they compute to the frames that are expected.
-use Rattle.std.proofs.Common.{◌≡◌, ℕ, List, [], ◌∷◌, ◌++◌, Result, Ok, Err, refl, codes}
-use Rattle.qm_frame.specs.declared.step.FrameFault.TheVariants.{LexError, Unbalanced, TooDeep, TooLong}
+use Rattle.std.proofs.Common.{◌≡◌, [], ◌∷◌, ◌++◌, Ok, Err, refl, codes}
+use Rattle.qm_frame.specs.declared.step.FrameFault.TheVariants.{LexError, Unbalanced}
 use Rattle.qm_frame.specs.Messages.{is_open, is_message, fault_of}
 use Rattle.qm_frame.specs.Framing.{frames_of}
 

@@ -11,26 +11,18 @@ abbrev pub run_to : LastPiece → Option ℕ → Front ℕ LastPiece
 run_to last (Some n) = Piece [] n
 run_to last None = Final [] last
 
--- what follows a quote: a string of so many further bytes, or the text ends before the string does
-pub data Quoted : Type 0 where
-  Closed : ℕ → Quoted
-  Unclosed : LastPiece → Quoted
+-- a front that takes one more byte
+abbrev pub one_later : Front ℕ LastPiece → Front ℕ LastPiece
+one_later (Piece answers k) = Piece answers (k + 1)
+one_later (Final answers last) = Final answers last
 
-abbrev pub one_later : Quoted → Quoted
-one_later (Closed k) = Closed (k + 1)
-one_later (Unclosed last) = Unclosed last
-
--- a backslash (92) goes with the byte after it; escaped says that the first byte is such a one
-abbrev pub quoted : ℕ → Bool → List ℕ → Quoted
-quoted quote escaped [] = Unclosed (cond escaped (Escape quote) (Str quote))
+-- what follows the quote of a string; a backslash (92) goes with the byte after it, and escaped says that the first byte is such a one
+abbrev pub quoted : ℕ → Bool → List ℕ → Front ℕ LastPiece
+quoted quote escaped [] = Final [] (cond escaped (Escape quote) (Str quote))
 quoted quote escaped (x ∷ rest) =
-    cond (is_barred x) (Unclosed Broken)
-    (cond (not escaped && x == quote) (Closed 1)
+    cond (is_barred x) (Final [] Broken)
+    (cond (not escaped && x == quote) (Piece [] 1)
     (one_later (quoted quote (not escaped && x == 92) rest)))
-
-abbrev pub string_to : Quoted → Front ℕ LastPiece
-string_to (Closed k) = Piece [] k
-string_to (Unclosed last) = Final [] last
 
 -- the piece that begins with x; its answer is x where x is a piece by itself
 abbrev pub piece : ℕ → List ℕ → Front ℕ LastPiece
@@ -38,7 +30,7 @@ piece x rest =
     cond (is_single x) (Piece (x ∷ []) 0)
     (cond (begins_number x) (run_to Number (position (λ y. not (in_number y)) rest))
     (cond (is_letter x) (run_to Word (position (λ y. not (is_letter y)) rest))
-    (cond (is_quote x) (string_to (quoted x false rest))
+    (cond (is_quote x) (quoted x false rest)
     (Final [] Broken))))
 
 -- the bytes of a text that are pieces by themselves, and the piece that the text ends in

@@ -1,6 +1,8 @@
 //! Messages in a stream of bytes, found byte by byte.
 #![tactic(auto)]
 
+mod bytes;
+mod judging;
 mod piece;
 pub mod step;
 
