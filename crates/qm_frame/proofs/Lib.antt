@@ -1,5 +1,7 @@
 mod FramingLemmas
 mod Growth
+mod Levels
+mod Opens
 mod PieceLemmas
 mod Positions
 mod Rows
