@@ -79,3 +79,5 @@ residue_of-more bytes x = ap (λ (f : Found (Result (List ℕ) FrameFault) Resid
 pub nothing_left : residue_of [] ≡ Between
 unfolding residue_of
 nothing_left = refl
+
+pub ruleset one_more = (frames_of-more, residue_of-more)

@@ -1,5 +1,5 @@
 -- The level of a text with one more byte.
-use Rattle.std.proofs.Common.{◌≡◌, ℕ, ◌+◌, ◌-◌, ◌≤◌, ◌==◌, ◌⊎◌, inl, inr, Bool, true, false, cond, List, [], ◌∷◌, ◌++◌, count_by, refl, ap, sym, ◌∙◌, arith}
+use Rattle.std.proofs.Common.{◌≡◌, ℕ, ◌+◌, ◌-◌, ◌≤◌, ◌==◌, inl, inr, Bool, true, false, cond, List, [], ◌∷◌, ◌++◌, count_by, refl, ap, sym, ◌∙◌, arith}
 use Rattle.std.proofs.lemmas.Bool.{cases_Bool}
 use Rattle.std.proofs.lemmas.Bool.Decides.{nat_tests}
 use Rattle.std.proofs.lemmas.List.Sums.{sum_by-append}
@@ -8,7 +8,7 @@ use Rattle.qm_frame.specs.declared.piece.LastPiece.{LastPiece}
 use Rattle.qm_frame.specs.declared.piece.LastPiece.TheVariants.{Whole, Number, Word, Str, Escape, Broken}
 use Rattle.qm_frame.specs.Bytes.{is_single, is_opener, is_closer, begins_number, in_number, is_letter, is_quote, is_barred}
 use Rattle.qm_frame.specs.Pieces.{pieces, level_of, is_broken}
-use Rattle.qm_frame.specs.Machine.{ends_in, begun, moved, hides, depth_after}
+use Rattle.qm_frame.specs.Machine.{begun, moved, hides, depth_after}
 use Rattle.qm_frame.proofs.PieceLemmas.{pieces-more}
 
 no-answers : (b : Bool) (f g : Found ℕ LastPiece) → f.answers ≡ [] → g.answers ≡ [] → (cond b f g).answers ≡ []

@@ -5,3 +5,4 @@ mod Opens
 mod PieceLemmas
 mod Positions
 mod Rows
+mod Texts

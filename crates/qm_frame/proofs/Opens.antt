@@ -1,5 +1,5 @@
 -- Open texts with one more byte.
-use Rattle.std.proofs.Common.{◌≡◌, ℕ, ◌+◌, ◌-◌, ◌≤◌, ◌==◌, nat_le, nat_lt, Bool, true, false, not, cond, ◌&&◌, List, [], ◌∷◌, ◌++◌, length, take, refl, ap, sym, ◌∙◌, subst, arith, append_assoc, length-append}
+use Rattle.std.proofs.Common.{◌≡◌, ℕ, ◌+◌, ◌-◌, ◌≤◌, ◌<◌, ◌==◌, nat_le, nat_lt, Bool, true, false, not, cond, ◌&&◌, List, [], ◌∷◌, ◌++◌, length, take, refl, ap, ◌∙◌, subst, arith, append_assoc, length-append}
 use Rattle.std.proofs.lemmas.Bool.{cond_both, and_parts}
 use Rattle.std.proofs.lemmas.Bool.Decides.{nat_tests}
 use Rattle.std.proofs.Math.Bool.{and-true}
@@ -14,7 +14,7 @@ use Rattle.qm_frame.specs.declared.judging.Judged.TheVariants.{Taken, Ends, Wron
 use Rattle.qm_frame.specs.declared.judging.State.{State}
 use Rattle.qm_frame.specs.Pieces.{pieces, scans, level_of, is_broken}
 use Rattle.qm_frame.specs.Messages.{begins_open, is_level_open, each_prefix, is_open, is_message, fault_of}
-use Rattle.qm_frame.specs.Machine.{moved, depth_after, state_of, judged}
+use Rattle.qm_frame.specs.Machine.{moved, depth_after, state_of, IsWithin, judged}
 use Rattle.qm_frame.proofs.PieceLemmas.{pieces-more}
 use Rattle.qm_frame.proofs.Levels.{level_of-more, depth_after-broken}
 
@@ -36,12 +36,6 @@ opened text e =
 last-prefix : (test : List ℕ → Bool) (front text : List ℕ) (y : ℕ) → each_prefix test front (y ∷ text) ≡ true → test (front ++ y ∷ text) ≡ true
 last-prefix test front [] y e = (and_parts _ _ e).0
 last-prefix test front (z ∷ text) y e = subst (λ l. test l ≡ true) (append_assoc front (y ∷ []) (z ∷ text)) (last-prefix test (front ++ y ∷ []) text z ((and_parts _ _ e).1))
-
--- what is known of an open text
-pub record IsWithin (s : State) : Type 0 where
-  pub low : 1 ≤ s.depth
-  pub high : s.depth ≤ MAX_DEPTH
-  pub short : s.length ≤ MAX_LENGTH
 
 pub is_open-within : (text : List ℕ) → is_open text ≡ true → IsWithin (state_of text)
 is_open-within [] e = let b : false ≡ true = (opened [] e).begins in cc
@@ -84,26 +78,27 @@ fault_of-more : (text : List ℕ) (x : ℕ) → fault_of (text ++ x ∷ []) ≡ 
 unfolding fault_of
 fault_of-more text x = rw (length-append text (x ∷ [])) refl
 
--- verdicts, of a text that is open or a message or has that fault, and of which this is known
-abbrev Holds : Judged → Bool → Bool → FrameFault → State → Type 0
-Holds (Taken s) o m fault known = (o ≡ true) × (s ≡ known)
-Holds Ends o m fault known = (o ≡ false) × (m ≡ true)
-Holds (Wrong f) o m fault known = (o ≡ false) × (m ≡ false) × (fault ≡ f)
+-- the verdict on a text that is open or a message or has that fault, of which this is known, with the byte after so many
+abbrev Holds : Judged → Bool → Bool → FrameFault → State → ℕ → Type 0
+Holds (Taken s) o m fault known n = (o ≡ true) × (s ≡ known) × (n < MAX_LENGTH)
+Holds Ends o m fault known n = (o ≡ false) × (m ≡ true) × (n < MAX_LENGTH)
+Holds (Wrong f) o m fault known n = (o ≡ false) × (m ≡ false) × (fault ≡ f)
 
 holds : (broken : Bool) (n d : ℕ) (s : State) → n ≤ MAX_LENGTH → (broken ≡ true → (1 ≤ d) × (d ≤ MAX_DEPTH)) →
     Holds (cond (n == MAX_LENGTH) (Wrong TooLong) (cond broken (Wrong LexError) (cond (nat_lt MAX_DEPTH d) (Wrong TooDeep) (cond (d == 0) Ends (Taken s)))))
     (not broken && nat_le (n + 1) MAX_LENGTH && (nat_le 1 d && nat_le d MAX_DEPTH)) ((d == 0) && nat_le (n + 1) MAX_LENGTH)
-    (cond (nat_lt MAX_LENGTH (n + 1)) TooLong (cond (nat_lt MAX_DEPTH d) TooDeep LexError)) s
+    (cond (nat_lt MAX_LENGTH (n + 1)) TooLong (cond (nat_lt MAX_DEPTH d) TooDeep LexError)) s n
 holds broken n d s short level =
-    let P : Judged → Type 0 = λ j. Holds j (not broken && nat_le (n + 1) MAX_LENGTH && (nat_le 1 d && nat_le d MAX_DEPTH)) ((d == 0) && nat_le (n + 1) MAX_LENGTH) (cond (nat_lt MAX_LENGTH (n + 1)) TooLong (cond (nat_lt MAX_DEPTH d) TooDeep LexError)) s in
+    let P : Judged → Type 0 = λ j. Holds j (not broken && nat_le (n + 1) MAX_LENGTH && (nat_le 1 d && nat_le d MAX_DEPTH)) ((d == 0) && nat_le (n + 1) MAX_LENGTH) (cond (nat_lt MAX_LENGTH (n + 1)) TooLong (cond (nat_lt MAX_DEPTH d) TooDeep LexError)) s n in
     cond_both (n == MAX_LENGTH) _ _ P (λ long. (grind (arith, nat_tests, long), grind (arith, nat_tests, long), grind (arith, nat_tests, long)))
-    (λ long. cond_both broken _ _ P (λ b. (grind (arith, nat_tests, b), grind (arith, nat_tests, level b), grind (arith, nat_tests, long, short, level b)))
-    (λ b. cond_both (nat_lt MAX_DEPTH d) _ _ P (λ deep. (grind (arith, nat_tests, deep), grind (arith, nat_tests, deep), grind (arith, nat_tests, long, short, deep)))
-    (λ deep. cond_both (d == 0) _ _ P (λ closed. (grind (arith, nat_tests, closed), grind (arith, nat_tests, long, short, closed)))
-    (λ closed. (grind (arith, nat_tests, b, long, short, deep, closed), refl)))))
+    (λ long. let below : n < MAX_LENGTH = grind (arith, nat_tests, long, short) in
+    cond_both broken _ _ P (λ b. (grind (arith, nat_tests, b), grind (arith, nat_tests, level b), grind (arith, nat_tests, below, level b)))
+    (λ b. cond_both (nat_lt MAX_DEPTH d) _ _ P (λ deep. (grind (arith, nat_tests, deep), grind (arith, nat_tests, deep), grind (arith, nat_tests, below, deep)))
+    (λ deep. cond_both (d == 0) _ _ P (λ closed. (grind (arith, nat_tests, closed), grind (arith, nat_tests, below, closed), below))
+    (λ closed. (grind (arith, nat_tests, b, below, deep, closed), refl, below)))))
 
-holds_of : (j : Judged) (o o' m m' : Bool) (f f' : FrameFault) (k k' : State) → o ≡ o' → m ≡ m' → f ≡ f' → k ≡ k' → Holds j o' m' f' k' → Holds j o m f k
-holds_of j o o' m m' f f' k k' a b c d h = rw (a, b, c, d) h
+holds_of : (j : Judged) (o o' m m' : Bool) (f f' : FrameFault) (k k' : State) (n : ℕ) → o ≡ o' → m ≡ m' → f ≡ f' → k ≡ k' → Holds j o' m' f' k' n → Holds j o m f k n
+holds_of j o o' m m' f f' k k' n a b c d h = rw (a, b, c, d) h
 
 state_is : (l l' : LastPiece) (d d' n n' : ℕ) → l ≡ l' → d ≡ d' → n ≡ n' → (let s : State = record { last = l; depth = d; length = n } in s) ≡ record { last = l'; depth = d'; length = n' }
 state_is l l' d d' n n' a b c = cc
@@ -111,11 +106,11 @@ state_is l l' d d' n n' a b c = cc
 state_of-more : (text : List ℕ) (x d : ℕ) → level_of (text ++ x ∷ []) ≡ d → state_of (text ++ x ∷ []) ≡ record { last = (moved (pieces text).rest x).rest; depth = d; length = length text + 1 }
 state_of-more text x d e = state_is _ _ _ _ _ _ (ap (λ (f : Found ℕ LastPiece). f.rest) (pieces-more text x)) e (length-append text (x ∷ []))
 
--- what a judged byte makes of the text that it ends
-abbrev pub Judges : Judged → List ℕ → Type 0
-Judges j text = Holds j (is_open text) (is_message text) (fault_of text) (state_of text)
+-- what a judged byte makes of the text before it
+abbrev pub Judges : Judged → List ℕ → ℕ → Type 0
+Judges j text x = Holds j (is_open (text ++ x ∷ [])) (is_message (text ++ x ∷ [])) (fault_of (text ++ x ∷ [])) (state_of (text ++ x ∷ [])) (length text)
 
-pub judged-judges : (text : List ℕ) (x : ℕ) → is_open text ≡ true → Judges (judged (state_of text) x) (text ++ x ∷ [])
+pub judged-judges : (text : List ℕ) (x : ℕ) → is_open text ≡ true → Judges (judged (state_of text) x) text x
 judged-judges text x e =
     let known : IsWithin (state_of text) = is_open-within text e in
     let last : LastPiece = (pieces text).rest in
@@ -123,7 +118,7 @@ judged-judges text x e =
     let broken : Bool = is_broken (moved last x).rest in
     let level : level_of (text ++ x ∷ []) ≡ d = level_of-more text x known.low in
     let kept : broken ≡ true → (1 ≤ d) × (d ≤ MAX_DEPTH) = λ b. rw (depth_after-broken last (level_of text) x b) (known.low, known.high) in
-    holds_of _ _ _ _ _ _ _ _ _
+    holds_of _ _ _ _ _ _ _ _ _ _
     (is_open-more text x e ∙ ap (λ (n : ℕ). not broken && nat_le (length text + 1) MAX_LENGTH && (nat_le 1 n && nat_le n MAX_DEPTH)) level)
     (is_message-more text x e ∙ ap (λ (n : ℕ). (n == 0) && nat_le (length text + 1) MAX_LENGTH) level)
     (fault_of-more text x ∙ ap (λ (n : ℕ). cond (nat_lt MAX_LENGTH (length text + 1)) TooLong (cond (nat_lt MAX_DEPTH n) TooDeep LexError)) level)

@@ -4,3 +4,4 @@ pub mod Framing
 pub mod Machine
 pub mod Messages
 pub mod Pieces
+pub mod Splits

@@ -1,9 +1,11 @@
 -- What one more byte makes of a text, by what is known of the text (serves private functions).
-use Rattle.std.specs.Prelude.{ℕ, ◌+◌, ◌-◌, ◌==◌, nat_lt, Bool, true, false, cond, List, [], ◌∷◌, ◌++◌, length, Result}
+use Rattle.std.specs.Prelude.{◌≡◌, ◌≤◌, ℕ, ◌+◌, ◌-◌, ◌==◌, nat_lt, Bool, true, false, cond, List, [], ◌∷◌, ◌++◌, length, Result}
 use Rattle.qm_base.specs.Search.{Found, after_front}
 use Rattle.qm_frame.specs.declared.step.FrameFault.{FrameFault}
 use Rattle.qm_frame.specs.declared.step.FrameFault.TheVariants.{LexError, TooDeep, TooLong}
 use Rattle.qm_frame.specs.declared.step.TheConstants.{MAX_LENGTH, MAX_DEPTH}
+use Rattle.qm_frame.specs.declared.step.Step.{Step}
+use Rattle.qm_frame.specs.declared.step.Step.TheVariants.{More, Frame, Bad}
 use Rattle.qm_frame.specs.declared.piece.LastPiece.{LastPiece}
 use Rattle.qm_frame.specs.declared.piece.LastPiece.TheVariants.{Whole, Number, Word, Str, Escape, Broken}
 use Rattle.qm_frame.specs.declared.judging.Judged.{Judged}
@@ -57,6 +59,12 @@ depth_after last depth x =
 abbrev pub state_of : List ℕ → State
 state_of text = record { last = (pieces text).rest; depth = level_of text; length = length text }
 
+-- the bounds of what is known of an open text
+pub record IsWithin (s : State) : Type 0 where
+  pub low : 1 ≤ s.depth
+  pub high : s.depth ≤ MAX_DEPTH
+  pub short : s.length ≤ MAX_LENGTH
+
 -- what one more byte makes of an open text
 abbrev pub judged : State → ℕ → Judged
 judged s x =
@@ -76,3 +84,19 @@ step (Inside text) x =
     cond (is_open (text ++ x ∷ [])) (record { answers = []; rest = Inside (text ++ x ∷ []) })
     (after_front (closed_by text x []) (λ k. nothing))
 step Skipping x = record { answers = []; rest = cond (is_reset x) Between Skipping }
+
+-- what a byte of a message leaves unfinished, by its answer and the text with it
+abbrev pub left_by : Step → ℕ → List ℕ → Residue
+left_by More x text = Inside text
+left_by Frame x text = Between
+left_by (Bad fault) x text = cond (is_reset x) Between Skipping
+
+-- there is room for a message, and what is known of the text is right while it is open
+pub record IsKnown (capacity : ℕ) (text : List ℕ) (state : State) : Type 0 where
+  pub room : MAX_LENGTH ≤ capacity
+  pub known : is_open text ≡ true → state ≡ state_of text
+
+-- what is left unfinished, and the message that the last byte completed, or nothing
+pub record Split : Type 0 where
+  pub rest : Residue
+  pub message : List ℕ

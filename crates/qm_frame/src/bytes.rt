@@ -40,12 +40,7 @@ pub fn begins_number(byte: u8) -> bool
 pub fn in_number(byte: u8) -> bool
     ensures { result ≡ number_has byte }
 {
-    is_digit(byte)
-        || byte == b'+'
-        || byte == b'-'
-        || byte == b'.'
-        || byte == b'e'
-        || byte == b'E'
+    is_digit(byte) || byte == b'+' || byte == b'-' || byte == b'.' || byte == b'e' || byte == b'E'
 }
 
 pub fn is_letter(byte: u8) -> bool

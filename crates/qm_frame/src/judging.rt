@@ -1,5 +1,5 @@
-ghost use Rattle.std.specs.Prelude.{◌≡◌, ◌≤◌};
-ghost use Rattle.qm_frame.specs.Machine.{judged};
+ghost use Rattle.std.specs.Prelude.{◌≡◌};
+ghost use Rattle.qm_frame.specs.Machine.{judged, IsWithin};
 
 use crate::piece::{LastPiece, depth_after, is_broken, next};
 use crate::step::{FrameFault, MAX_DEPTH, MAX_LENGTH};
@@ -21,9 +21,7 @@ pub enum Judged {
 
 /// What one more byte makes of an open text of which this is known.
 pub fn judge(state: State, byte: u8) -> Judged
-    requires low { 1 ≤ state.depth }
-    requires high { state.depth ≤ MAX_DEPTH }
-    requires short { state.length ≤ MAX_LENGTH }
+    requires { IsWithin state }
     ensures { result ≡ judged state byte }
 {
     let last = next(state.last, byte);
