@@ -10,7 +10,8 @@ use Rattle.qm_frame.specs.declared.judging.State.{State}
 use Rattle.qm_frame.specs.Bytes.{is_opener, is_reset}
 use Rattle.qm_frame.specs.Messages.{is_open}
 use Rattle.qm_frame.specs.Framing.{Between, Inside, Skipping}
-use Rattle.qm_frame.specs.Machine.{state_of, judged, IsWithin, nothing, step}
+use Rattle.qm_frame.specs.States.{state_of, judged, IsWithin}
+use Rattle.qm_frame.specs.Steps.{nothing, step}
 use Rattle.qm_frame.proofs.Opens.{is_open-within, Judges, judged-judges}
 
 -- text is what a framing holds, and now the same as contracts see it

@@ -8,7 +8,7 @@ use Rattle.qm_frame.specs.declared.splitter.Splitter.TheInside.{Inside as Fields
 use Rattle.qm_frame.specs.Bytes.{is_reset}
 use Rattle.qm_frame.specs.Messages.{is_open}
 use Rattle.qm_frame.specs.Framing.{Between, Inside, Skipping}
-use Rattle.qm_frame.specs.Machine.{Split}
+use Rattle.qm_frame.specs.Steps.{Split}
 
 -- where a byte of a message leaves a splitter, by its answer
 abbrev pub mode_after : Step → ℕ → Mode

@@ -2,7 +2,7 @@ ghost use Rattle.std.specs.Prelude.{◌≡◌, ◌≤◌, ◌<◌, true, [], ◌
 ghost use Rattle.qm_frame.specs.Bytes.{is_opener as opener};
 ghost use Rattle.qm_frame.specs.Framed.{answered};
 ghost use Rattle.qm_frame.specs.Framing.{Inside};
-ghost use Rattle.qm_frame.specs.Machine.{step, left_by};
+ghost use Rattle.qm_frame.specs.Steps.{step, left_by};
 ghost use Rattle.qm_frame.specs.Messages.{is_open};
 
 use crate::judging::{Judged, State, judge};
@@ -36,7 +36,7 @@ pub struct OpenText {
 
 impl Model for OpenText {
     ghost use Rattle.std.specs.Prelude.{List, ℕ, vec_capacity};
-    ghost use Rattle.qm_frame.specs.Machine.{IsKnown};
+    ghost use Rattle.qm_frame.specs.States.{IsKnown};
 
     ghost Value = { List ℕ };
 

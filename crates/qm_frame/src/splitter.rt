@@ -1,7 +1,7 @@
 ghost use Rattle.std.specs.Prelude.{◌≡◌, ◌≢◌, ◌∷◌, [], IfOk};
 ghost use Rattle.qm_frame.specs.Framed.{answered};
 ghost use Rattle.qm_frame.specs.Framing.{Between};
-ghost use Rattle.qm_frame.specs.Machine.{step};
+ghost use Rattle.qm_frame.specs.Steps.{step};
 ghost use Rattle.qm_frame.specs.Splits.{mode_after as mode_of};
 
 use crate::bytes::{is_closer, is_opener, is_reset, is_space};
@@ -49,7 +49,7 @@ pub struct Splitter {
 }
 
 impl Model for Splitter {
-    ghost use Rattle.qm_frame.specs.Machine.{Split};
+    ghost use Rattle.qm_frame.specs.Steps.{Split};
     ghost use Rattle.qm_frame.specs.Splits.{seen, IsKept};
 
     ghost Value = { Split };
