@@ -1,3 +1,4 @@
 pub mod Chunks
+pub mod Joined
 pub mod Plain
 pub mod Texts

@@ -45,7 +45,7 @@ remains_none {mid = mid} h e = sym (append-nil mid) ∙ ap (λ l. mid ++ l) (sym
 pub remains_stops : {old whole mid left : List ℕ} (a z new : List ℕ) (r : Result (Unit {0}) NoMemory) → Remains old whole mid left → left ≡ a ++ z → IsErr r → IsPrefix new (mid ++ a) → Writes old whole r new
 remains_stops {old} {whole} {mid} a z new r h e err b = stops old whole new r err (further old mid a z whole new (sym h.is ∙ ap (λ l. mid ++ l) e ∙ sym (append_assoc mid a z)) b)
 
-cut : {X : Type 0} (xs : List X) (i : ℕ) (d : X) → i < length xs → xs ≡ take i xs ++ get_or xs i d ∷ drop (i + 1) xs
+pub cut : {X : Type 0} (xs : List X) (i : ℕ) (d : X) → i < length xs → xs ≡ take i xs ++ get_or xs i d ∷ drop (i + 1) xs
 cut xs i d h = sym (take-append-drop i xs) ∙ ap (λ l. take i xs ++ l) (drop-cons xs i d h ∙ rw (add-one i) refl)
 
 flat_map-cut : {X : Type 0} (f : X → List ℕ) (xs : List X) (i : ℕ) (d : X) → i < length xs → flat_map f xs ≡ flat_map f (take i xs) ++ (f (get_or xs i d) ++ flat_map f (drop (i + 1) xs))
