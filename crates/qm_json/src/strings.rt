@@ -9,7 +9,11 @@ fn hex_digit(n: u16) -> u8
     requires { n < 16 }
     ensures { result ≡ digit_of n }
 {
-    if n < 10 { n as u8 + b'0' } else { n as u8 - 10 + b'A' }
+    if n < 10 {
+        n as u8 + b'0'
+    } else {
+        n as u8 - 10 + b'A'
+    }
 }
 
 fn write_unit(unit: u16, out: &mut Text) -> Result<(), NoMemory>
@@ -103,9 +107,7 @@ fn write_chunks(bytes: &[u8], out: &mut Text) -> Result<(), NoMemory>
 fn all_plain(bytes: &[u8]) -> bool
     ensures { result ≡ list_all is_plain bytes.now }
 {
-    bytes.iter().all(|byte| {
-        *byte >= b' ' && *byte < 0x7F && *byte != b'"' && *byte != b'\\'
-    })
+    bytes.iter().all(|byte| { *byte >= b' ' && *byte < 0x7F && *byte != b'"' && *byte != b'\\' })
 }
 
 fn write_escaped(bytes: &[u8], out: &mut Text) -> Result<(), NoMemory>

@@ -11,9 +11,10 @@ nothing (x ∷ text) e = cc
 
 pub loop-c-preserved : goal.loop-c-preserved
 loop-c-preserved c =
-    let next : chars (chars_rest c.loop-c.c-iterator) ≡ c.in-Some.c ∷ chars (chars_rest c.next.new.self) = chars_past_char _ _ _ c.loop-c.invariant.1 c.in-Some.ensures.steps.0 in
-    (remains_less (escaped c.in-Some.c) _ _ c.loop-c.invariant.0 (ap escapes next) c.in_ok-write_char.ensures,
-    IsUtf8-past_char _ _ _ c.loop-c.invariant.1 c.in-Some.ensures.steps.0)
+    let next : chars (chars_rest c.loop-c.c-iterator) ≡ c.in-Some.c ∷ chars (chars_rest c.next.new.self) = chars_past_char _ _ _ c.loop-c.invariant.1 c.in-Some.ensures.steps.0 in (
+      remains_less (escaped c.in-Some.c) _ _ c.loop-c.invariant.0 (ap escapes next) c.in_ok-write_char.ensures,
+      IsUtf8-past_char _ _ _ c.loop-c.invariant.1 c.in-Some.ensures.steps.0,
+    )
 
 pub returns-in_err-write_char : goal.returns-in_err-write_char
 returns-in_err-write_char c =
