@@ -2,6 +2,8 @@
 #![tactic(auto)]
 
 mod copies;
+mod equality;
+mod lengths;
 mod members;
 mod printing;
 mod strings;
