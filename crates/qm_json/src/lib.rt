@@ -11,3 +11,6 @@ pub mod value;
 
 pub use members::{MemberFault, Members, has_member};
 pub use value::{Json, Member};
+
+#[cfg(test)]
+mod tests;
