@@ -4,6 +4,7 @@
 
 pub mod entries;
 pub mod inputs;
+pub mod judging;
 pub mod lines;
 pub mod monitor;
 pub mod requests;
