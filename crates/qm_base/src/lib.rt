@@ -2,11 +2,13 @@
 //! prefixes of lists, counts of faults, and the search for pieces from the front of a list.
 #![tactic(auto)]
 
+pub mod calls;
 pub mod history;
 pub mod reserved;
 pub mod shared;
 pub mod text;
 
+pub use calls::CallList;
 pub use history::History;
 pub use reserved::ReservedList;
 pub use shared::Shared;
