@@ -1,6 +1,11 @@
 //! JSON values and their printed text (RFC 8259).
 #![tactic(auto)]
 
+mod copies;
+mod members;
+mod printing;
+mod strings;
 pub mod value;
 
+pub use members::{MemberFault, Members, has_member};
 pub use value::{Json, Member};

@@ -1,0 +1,4 @@
+pub mod Chunks
+pub mod Joined
+pub mod Plain
+pub mod Texts
