@@ -8,11 +8,11 @@ use crate::inputs::Input;
 use crate::verdicts::{Command, Refusal, Verdict};
 use qm_base::{NoMemory, Text};
 use qm_caps::Mode;
-use qm_json::{Json, Member};
+use qm_json::{Json, Member, has_member};
 use std::alloc::Global;
 
 /// The command of a name, where there is one.
-pub fn known_command(name: &[u8]) -> Option<Command>
+pub(crate) fn known_command(name: &[u8]) -> Option<Command>
     ensures { result ≡ command_of_name name.now }
 {
     if name == b"qmp_capabilities".as_slice() {
@@ -71,16 +71,10 @@ fn verb(members: &[Member]) -> Option<&Member>
     members.iter().find(|member| is_verb(member))
 }
 
-fn has_name(members: &[Member], name: &[u8]) -> bool
-    ensures { result ≡ has_name members.now name.now }
-{
-    members.iter().any(|member| member.name.as_slice() == name)
-}
-
 fn has_two_verbs(members: &[Member]) -> bool
     ensures { result ≡ (has_name members.now (codes "execute") && has_name members.now (codes "exec-oob")) }
 {
-    has_name(members, b"execute") && has_name(members, b"exec-oob")
+    has_member(members, b"execute") && has_member(members, b"exec-oob")
 }
 
 fn string(value: &Json) -> Option<&[u8]>
@@ -101,7 +95,8 @@ fn is_object(value: &Json) -> bool
     }
 }
 
-fn members(value: &Json) -> &[Member]
+/// The members of an object; any other value has none.
+pub(crate) fn members(value: &Json) -> &[Member]
     ensures { result.now ≡ members_of value.now }
 {
     match value {
@@ -110,25 +105,17 @@ fn members(value: &Json) -> &[Member]
     }
 }
 
-fn member<'a>(value: &'a Json, name: &[u8]) -> Option<&'a Json>
-    ensures { option_copied result ≡ member_of value.now name.now }
-{
-    members(value)
-        .iter()
-        .find(|member| member.name.as_slice() == name)
-        .map(|member| &member.value)
-}
-
 fn arguments(value: &Json) -> &[Member]
     ensures { result.now ≡ arguments_of value.now }
 {
-    match member(value, b"arguments") {
+    match value.member(b"arguments") {
         Some(arguments) => members(arguments),
         None => &[],
     }
 }
 
-fn command_name(value: &Json) -> Option<&[u8]>
+/// The command that an object names, where it names one.
+pub(crate) fn command_name(value: &Json) -> Option<&[u8]>
     ensures { option_copied result ≡ command_name_of value.now }
 {
     match verb(members(value)) {
@@ -145,7 +132,7 @@ fn malformed_verb(alloc: Global, verb: &Member, value: &Json) -> Result<Option<R
         let name = verb.name.copy(alloc)?;
         return Ok(Some(Refusal::VerbNoString(name)));
     }
-    match member(value, b"arguments") {
+    match value.member(b"arguments") {
         Some(arguments) if !is_object(arguments) => Ok(Some(Refusal::ArgumentsNoObject)),
         _ => Ok(None),
     }
@@ -226,7 +213,7 @@ fn request_verdict(alloc: Global, mode: Mode, value: &Json) -> Result<Verdict, N
 
 /// The verdict on an input that was admitted in a mode (QMP specification, "Issuing Commands" and
 /// "Capabilities Negotiation"): the first check that it fails, or the command that takes effect.
-pub fn verdict(alloc: Global, mode: Mode, input: &Input) -> Result<Verdict, NoMemory>
+pub(crate) fn verdict(alloc: Global, mode: Mode, input: &Input) -> Result<Verdict, NoMemory>
     ensures { IfOk result (λ verdict. verdict ≡ verdict_of mode input.now) }
 {
     match input {

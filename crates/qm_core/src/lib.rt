@@ -4,9 +4,10 @@
 
 pub mod entries;
 pub mod inputs;
-pub mod judging;
+mod judging;
 pub mod lines;
 pub mod monitor;
+mod replies;
 pub mod requests;
 pub mod verdicts;
 
