@@ -4,8 +4,10 @@
 
 pub mod entries;
 pub mod inputs;
+mod judging;
 pub mod lines;
 pub mod monitor;
+mod replies;
 pub mod requests;
 pub mod verdicts;
 
