@@ -20,3 +20,6 @@ pub use verdicts::{Class, Command, Refusal, Verdict};
 
 /// How many sessions may ever be opened.
 pub const MOST_SESSIONS: u32 = 65_535;
+
+/// How many entries a journal may have.
+pub const MOST_ENTRIES: u64 = 1_000_000;

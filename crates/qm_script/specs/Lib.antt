@@ -3,3 +3,4 @@ pub mod Fed
 pub mod Lines
 pub mod Orders
 pub mod Playing
+pub mod Plays
