@@ -119,9 +119,9 @@ impl Splitter {
             self.mode = Mode::Inside;
             Step::More
         } else {
-            let step = Step::Bad(FrameFault::LexError);
-            self.mode = mode_after(step, byte);
-            step
+            let fault = Step::Bad(FrameFault::LexError);
+            self.mode = mode_after(fault, byte);
+            fault
         }
     }
 }
