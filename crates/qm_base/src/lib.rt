@@ -4,12 +4,14 @@
 
 pub mod calls;
 pub mod history;
+pub mod numerals;
 pub mod reserved;
 pub mod shared;
 pub mod text;
 
 pub use calls::CallList;
 pub use history::History;
+pub use numerals::number;
 pub use reserved::ReservedList;
 pub use shared::Shared;
 pub use text::{NoMemory, Text};

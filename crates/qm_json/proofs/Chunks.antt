@@ -1,8 +1,8 @@
--- The code points of bytes, chunk by chunk.
+-- The code points of bytes, chunk by chunk, and of a text, one by one.
 use Rattle.std.proofs.Common.{◌≡◌, ℕ, ◌<◌, Bool, true, false, not, cond, ◌==◌, List, [], ◌∷◌, ◌++◌, length, drop, IsUtf8, refl, ap, sym, ◌∙◌, arith, append_assoc, append-nil}
 use Rattle.std.specs.Str.{chars}
 use Rattle.std.specs.Str.Lossy.{utf8_lossy, utf8_valid_len, utf8_invalid_len, replacement_bytes}
-use Rattle.std.proofs.lemmas.Str.{chars-append, utf8_lossy_chunk, utf8_lossy_last_chunk, utf8_lossy_empty, chars-nil, IsUtf8-encode}
+use Rattle.std.proofs.lemmas.Str.{chars-append, chars_past_char, utf8_lossy_chunk, utf8_lossy_last_chunk, utf8_lossy_empty, chars-nil, IsUtf8-encode}
 use Rattle.std.proofs.lemmas.Grind.{flat_map-append}
 use Rattle.std.proofs.lemmas.Bool.Decides.{nat_tests}
 use Rattle.std.specs.Char.{encode_utf8}
@@ -32,6 +32,13 @@ chunk_of bs rest front bad valid invalid e f u h = record { parts = rw (e, f) h.
 
 escapes-append : (xs ys : List ℕ) → escapes (xs ++ ys) ≡ escapes xs ++ escapes ys
 escapes-append xs ys = flat_map-append escaped xs ys
+
+pub no_chars : (text : List ℕ) → length text ≡ 0 → escapes (chars text) ≡ []
+no_chars [] e = rw chars-nil
+no_chars (x ∷ text) e = cc
+
+pub char_left : (text rest : List ℕ) (c : ℕ) → IsUtf8 text → text ≡ encode_utf8 c ++ rest → escapes (chars text) ≡ escaped c ++ escapes (chars rest)
+char_left text rest c u e = ap escapes (chars_past_char text rest c u e)
 
 pub no_points : (bs : List ℕ) → length bs ≡ 0 → escapes (code_points bs) ≡ []
 no_points bs e = rw (utf8_lossy_empty bs e, chars-nil) refl

@@ -3,7 +3,7 @@ use Rattle.std.proofs.Common.{◌≡◌, ℕ, ◌+◌, ◌<◌, suc, true, List,
 use Rattle.std.specs.List.{flat_map}
 use Rattle.std.specs.Prelude.{nat_lt}
 use Rattle.std.specs.Result.{IsErr}
-use Rattle.std.proofs.lemmas.List.{map-append, append-nil, length-map, length-take-le}
+use Rattle.std.proofs.lemmas.List.{take_more, map-append, append-nil, length-map, length-take-le}
 use Rattle.std.proofs.lemmas.Grind.{flat_map-append}
 use Rattle.std.proofs.lemmas.Bool.Decides.{nat_tests}
 use Rattle.qm_base.specs.declared.text.NoMemory.{NoMemory}
@@ -31,6 +31,16 @@ joined-halts out mid new f xs i x r h at e err b =
     ∙ ap (λ (n : ℕ). joined (map f (take i xs)) ++ (placed (nat_lt 0 n) (f (get_or xs i x)) ++ flat_map after_comma (map f (drop (i + 1) xs)))) long in
     let remains : Remains out (joined (map f xs)) mid left = record { is = rw (e, append_assoc out (joined (map f (take i xs))) left) (ap (λ l. out ++ l) (sym all)) } in
     remains_stops (placed (nat_lt 0 i) (f (get_or xs i x))) _ new r remains refl err (subst (λ y. IsPrefix new (mid ++ placed (nat_lt 0 i) (f y))) at b)
+
+-- one more of the texts
+pub joined-next : {X : Type 0} (f : X → List ℕ) (xs : List X) (i : ℕ) (x : X) → i < length xs → x ≡ get_or xs i x → joined (map f (take (i + 1) xs)) ≡ joined (map f (take i xs)) ++ placed (nat_lt 0 i) (f x)
+joined-next f xs i x h at =
+    let long : length (map f (take i xs)) ≡ i = length-map (take i xs) f ∙ length-take-le i xs (omega arith) in
+    ap (λ l. joined (map f l)) (take_more xs i x h) ∙ ap joined (map-append f (take i xs) (get_or xs i x ∷ []))
+    ∙ joined-more (map f (take i xs)) [] (f (get_or xs i x))
+    ∙ ap (λ l. joined (map f (take i xs)) ++ l) (append-nil _)
+    ∙ ap (λ (n : ℕ). joined (map f (take i xs)) ++ placed (nat_lt 0 n) (f (get_or xs i x))) long
+    ∙ ap (λ y. joined (map f (take i xs)) ++ placed (nat_lt 0 i) (f y)) (sym at)
 
 pub printed_member-is : (m : Member) → printed_member m ≡ member_text m.name (printed m.value)
 printed_member-is m = fold-roll-Member (List ℕ) (List ℕ) print_layer member_layer record { name = m.name; value = m.value }

@@ -2,6 +2,8 @@
 #![tactic(auto)]
 
 mod copies;
+mod equality;
+mod lengths;
 mod members;
 mod printing;
 mod strings;
@@ -9,3 +11,6 @@ pub mod value;
 
 pub use members::{MemberFault, Members, has_member};
 pub use value::{Json, Member};
+
+#[cfg(test)]
+mod tests;

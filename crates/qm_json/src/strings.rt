@@ -45,7 +45,7 @@ fn write_unicode(c: char, out: &mut Text) -> Result<(), NoMemory>
     write_units(c.encode_utf16(&mut buffer), out)
 }
 
-fn short_escape(c: char) -> Option<[u8; 2]>
+pub(crate) fn short_escape(c: char) -> Option<[u8; 2]>
     ensures { unwrap_or result (plain_or_unicode c) ≡ escaped c }
 {
     match c {
@@ -104,7 +104,7 @@ fn write_chunks(bytes: &[u8], out: &mut Text) -> Result<(), NoMemory>
     Ok(())
 }
 
-fn all_plain(bytes: &[u8]) -> bool
+pub(crate) fn all_plain(bytes: &[u8]) -> bool
     ensures { result ≡ list_all is_plain bytes.now }
 {
     bytes.iter().all(|byte| { *byte >= b' ' && *byte < 0x7F && *byte != b'"' && *byte != b'\\' })
