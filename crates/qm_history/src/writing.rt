@@ -4,7 +4,7 @@ ghost use Rattle.qm_core.specs.Texts.{text_of};
 
 use crate::texts::entry_text;
 use qm_base::NoMemory;
-use qm_core::Entry;
+use qm_core::EntryList;
 use qm_link::{Sink, SinkFailed};
 use std::alloc::Global;
 
@@ -41,14 +41,15 @@ impl From<SinkFailed> for HistoryFault {
 /// error a part of the text was put.
 pub fn write_history<S: Sink>(
     alloc: Global,
-    journal: &[Entry],
+    journal: &EntryList,
     sink: &mut S,
 ) -> Result<(), HistoryFault>
-    ensures text { Puts (S.contents sink.old) (text_of journal.now) result (S.contents sink.new) }
+    ensures text { Puts (S.contents sink.old) (text_of journal.now.items) result (S.contents sink.new) }
     ensures failed { result ≡ Err HistoryFault.SinkFault → Rose (S.faults sink.old) (S.faults sink.new) }
     ensures kept { result ≢ Err HistoryFault.SinkFault → S.faults sink.new ≡ S.faults sink.old }
 {
-    for (i, entry) in journal.iter().enumerate() {
+    let entries = journal.as_slice();
+    for (i, entry) in entries.iter().enumerate() {
         let text = entry_text(alloc, i as u64 + 1, entry)?;
         sink.put(text.as_slice())?;
     }
