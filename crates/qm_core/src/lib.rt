@@ -4,17 +4,22 @@
 
 pub mod entries;
 pub mod inputs;
+pub mod journal;
 mod judging;
 pub mod lines;
 pub mod monitor;
+pub mod offers;
+mod outbox;
 mod replies;
 pub mod requests;
 pub mod verdicts;
 
 pub use entries::{Cause, Entry, StepFault};
 pub use inputs::{BadInput, FrameWord, Input, JsonWord};
+pub use journal::EntryList;
 pub use lines::LineList;
 pub use monitor::Limits;
+pub use offers::Offer;
 pub use requests::{Request, Started};
 pub use verdicts::{Class, Command, Refusal, Verdict};
 

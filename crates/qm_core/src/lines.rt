@@ -1,4 +1,4 @@
-ghost use Rattle.std.specs.Prelude.{◌≡◌, [], ◌∷◌, ◌++◌, length, OnOk, OnErr};
+ghost use Rattle.std.specs.Prelude.{◌≡◌, [], ◌∷◌, ◌++◌, ◌-◌, take, length, OnOk, OnErr};
 
 use qm_base::{NoMemory, Shared, Text};
 use std::alloc::Global;
@@ -52,6 +52,13 @@ impl LineList {
             Ok(()) => Ok(()),
             Err(_) => Err(NoMemory),
         }
+    }
+
+    /// Drops the last line, where there is one.
+    pub(crate) fn drop_last(&mut self)
+        ensures { self.new ≡ take (length self.old - 1) self.old }
+    {
+        let _ = self.items.pop();
     }
 
     /// Moves all lines out. It takes no memory.
