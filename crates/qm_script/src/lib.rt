@@ -1,6 +1,7 @@
 //! Replay of a script of steps. This project's own rule.
 #![tactic(auto)]
 
+pub mod closings;
 pub mod endings;
 pub mod lines;
 pub mod orders;
