@@ -5,7 +5,7 @@ use Rattle.std.specs.Option.{option_to_list}
 use Rattle.qm_caps.specs.declared.mode.Mode.TheVariants.{Negotiating}
 use Rattle.qm_core.specs.Legal.{past_of, IsLegal, HasRoom}
 use Rattle.qm_core.specs.Next.{Shown}
-use Rattle.qm_core.specs.Standing.{sessions_of, is_dropped, is_ended, open_count_of, admitted_of, mode_of, waiting_of, running_of, last_moment_of}
+use Rattle.qm_core.specs.Standing.{sessions_of, is_open, is_dropped, is_ended, open_count_of, admitted_of, mode_of, waiting_of, running_of, last_moment_of}
 use Rattle.qm_core.specs.Transcript.{untaken_of}
 use Rattle.qm_core.specs.declared.TheConstants.{MOST_ENTRIES}
 use Rattle.qm_core.specs.declared.entries.Entry.{Entry}
@@ -60,4 +60,5 @@ room_refusal entries past = cond (nat_le (length past + 1 + open_count_of past) 
 pub record IsFirstOpen (past : List Entry) (s : ℕ) : Type 0 where
   pub first : s ≡ 1
   pub known : sessions_of past ≡ 1 ∷ []
+  pub is_open : is_open s past ≡ true
   pub stays : is_dropped 1 past ≡ false

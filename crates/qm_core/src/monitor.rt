@@ -3,7 +3,7 @@ ghost use Rattle.std.specs.Result.{result_err};
 ghost use Rattle.qm_core.specs.Legal.{IsLegal, past_of};
 ghost use Rattle.qm_core.specs.Next.{Next, Open, Take, End, Drop, refusal_of, session_refusal};
 ghost use Rattle.qm_core.specs.Order.{MayEnd};
-ghost use Rattle.qm_core.specs.Standing.{sessions_of, was_opened, is_dropped, open_count_of, running_of, named_of};
+ghost use Rattle.qm_core.specs.Standing.{sessions_of, was_opened, is_dropped, is_ended, open_count_of, running_of, named_of};
 
 use crate::entries::{Cause, Entry, StepFault};
 use crate::journal::EntryList;
@@ -109,10 +109,11 @@ impl Monitor {
     }
 
     /// Whether the session was closed.
+    #[tactic(auto, using(crate::proofs::KeptSessions::other_not_dropped))]
     pub fn is_closed(&self, session: u32) -> bool
         ensures { result ≡ is_dropped session (past_of self.now.journal) }
     {
-        self.session.dropped && session == 1
+        if session == 1 { self.session.dropped } else { false }
     }
 
     fn open_count(&self) -> u64
@@ -147,7 +148,7 @@ impl Monitor {
     fn may_end(&self, session: u32) -> Result<(), StepFault>
         ensures fault { result_err result ≡ refusal_of self.now.limits.entries (past_of self.now.journal) (End session) }
         ensures open { OnOk result (IsFirstOpen (past_of self.now.journal) session) }
-        ensures may { OnOk result (MayEnd (past_of self.now.journal) session) }
+        ensures more { OnOk result (is_ended session (past_of self.now.journal) ≡ false) }
         ensures room { OnOk result (length (past_of self.now.journal) + 1 + open_count_of (past_of self.now.journal) ≤ self.now.limits.entries) }
     {
         match self.open_session(session) {
