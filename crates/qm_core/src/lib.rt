@@ -5,10 +5,12 @@
 pub mod entries;
 pub mod inputs;
 pub mod journal;
+mod judging;
 pub mod lines;
 pub mod monitor;
 pub mod offers;
 mod outbox;
+mod replies;
 pub mod requests;
 mod sessions;
 pub mod verdicts;

@@ -16,6 +16,11 @@ abbrev pub joined : List (List ℕ) → List ℕ
 joined [] = []
 joined (text ∷ texts) = text ++ flat_map after_comma texts
 
+-- a text that stands first, or later
+abbrev pub placed : Bool → List ℕ → List ℕ
+placed false text = text
+placed true text = after_comma text
+
 abbrev pub array_text : List (List ℕ) → List ℕ
 array_text items = codes "[" ++ joined items ++ codes "]"
 

@@ -1,6 +1,6 @@
 -- Strings as they are printed (RFC 8259, section 7; what is escaped beyond its needs, and what is
 -- done with bytes that are not UTF-8, is this project's own rule).
-use Rattle.std.specs.Prelude.{ℕ, ◌+◌, ◌/◌, ◌%◌, ◌==◌, ◌||◌, nat_lt, nat_le, cond, List, [], ◌∷◌, ◌++◌, chars, codes, flat_map}
+use Rattle.std.specs.Prelude.{ℕ, ◌+◌, ◌/◌, ◌%◌, ◌==◌, ◌||◌, ◌&&◌, not, nat_lt, nat_le, Bool, cond, List, [], ◌∷◌, ◌++◌, chars, codes, flat_map}
 use Rattle.std.specs.Char.Escape.{encode_utf16}
 use Rattle.std.specs.Str.Lossy.{utf8_lossy}
 
@@ -36,6 +36,18 @@ escaped c =
     (cond (c == 9) (codes "\\t")
     (plain_or_unicode c)))))))
 
+-- code points as they stand in a string
+abbrev pub escapes : List ℕ → List ℕ
+escapes cs = flat_map escaped cs
+
 -- a string in its quotes
 abbrev pub quoted : List ℕ → List ℕ
-quoted bytes = codes "\"" ++ flat_map escaped (code_points bytes) ++ codes "\""
+quoted bytes = codes "\"" ++ escapes (code_points bytes) ++ codes "\""
+
+-- a code point that stands for itself
+abbrev pub is_plain : ℕ → Bool
+is_plain c = nat_le 32 c && nat_lt c 127 && not (c == 34) && not (c == 92)
+
+-- a text, and U+FFFD after it where bytes that are not UTF-8 follow
+abbrev pub chunk_escapes : List ℕ → Bool → List ℕ
+chunk_escapes text faulty = escapes (chars text) ++ cond faulty (unicode_escape 0xFFFD) []
