@@ -1,4 +1,4 @@
-ghost use Rattle.std.specs.Prelude.{◌≡◌, ◌≢◌, ◌+◌, ◌≤◌, ◌<◌, [], ◌∷◌, length, Option, Some, Err, IfOk, IfErr, OnOk, IsTrue, ◌↔◌};
+ghost use Rattle.std.specs.Prelude.{◌≡◌, ◌≢◌, ◌+◌, ◌≤◌, ◌<◌, [], ◌∷◌, length, Option, Some, Err, IfOk, IfErr, OnOk, IsTrue, ◌↔◌, false};
 ghost use Rattle.std.specs.Result.{result_err};
 ghost use Rattle.qm_core.specs.Legal.{IsLegal, past_of};
 ghost use Rattle.qm_core.specs.Next.{Next, Open, Take, End, Drop, refusal_of, session_refusal};
@@ -109,7 +109,6 @@ impl Monitor {
     }
 
     /// Whether the session was closed.
-    #[tactic(auto, using(crate::proofs::KeptSessions::other_not_dropped))]
     pub fn is_closed(&self, session: u32) -> bool
         ensures { result ≡ is_dropped session (past_of self.now.journal) }
     {
