@@ -1,17 +1,18 @@
 ghost use Rattle.std.specs.Prelude.{◌≡◌, ◌≢◌, ◌+◌, ◌≤◌, ◌<◌, [], ◌∷◌, length, Option, Some, Err, IfOk, IfErr, OnOk, IsTrue, ◌↔◌, false};
 ghost use Rattle.std.specs.Result.{result_err};
 ghost use Rattle.qm_core.specs.Legal.{IsLegal, past_of};
-ghost use Rattle.qm_core.specs.Next.{Next, Open, Take, End, Drop, refusal_of, session_refusal};
-ghost use Rattle.qm_core.specs.Order.{MayEnd};
-ghost use Rattle.qm_core.specs.Standing.{sessions_of, was_opened, is_dropped, is_ended, open_count_of, running_of, named_of};
+ghost use Rattle.qm_core.specs.Next.{session_refusal};
+ghost use Rattle.qm_core.specs.Standing.{sessions_of, was_opened, is_dropped, is_ended, open_count_of, in_flight_of, running_of, named_of};
 
-use crate::entries::{Cause, Entry, StepFault};
+use crate::entries::StepFault;
 use crate::journal::EntryList;
 use crate::requests::{Request, Started};
 use crate::sessions::Session;
 use qm_base::{NoMemory, ReservedList};
 use std::alloc::Global;
 use std::marker::Model;
+
+mod session_steps;
 
 /// What a monitor may grow to.
 #[derive(Clone, Copy, Debug, PartialEq, Eq)]
@@ -112,13 +113,29 @@ impl Monitor {
     pub fn is_closed(&self, session: u32) -> bool
         ensures { result ≡ is_dropped session (past_of self.now.journal) }
     {
-        if session == 1 { self.session.dropped } else { false }
+        if session == 1 {
+            self.session.dropped
+        } else {
+            false
+        }
     }
 
     fn open_count(&self) -> u64
         ensures { result ≡ open_count_of (past_of self.now.journal) }
     {
-        if self.session.opened && !self.session.dropped { 1 } else { 0 }
+        if self.session.opened && !self.session.dropped {
+            1
+        } else {
+            0
+        }
+    }
+
+    fn in_flight(&self) -> u32
+        ensures { result ≡ in_flight_of 1 (past_of self.now.journal) }
+    {
+        let waiting = if self.session.waiting.is_some() { 1 } else { 0 };
+        let running = if self.running.is_some() { 1 } else { 0 };
+        waiting + running
     }
 
     fn room(&self) -> Result<(), StepFault>
@@ -141,35 +158,6 @@ impl Monitor {
         if self.session.dropped {
             return Err(StepFault::Closed);
         }
-        Ok(())
-    }
-
-    fn may_end(&self, session: u32) -> Result<(), StepFault>
-        ensures fault { result_err result ≡ refusal_of self.now.limits.entries (past_of self.now.journal) (End session) }
-        ensures open { OnOk result (IsFirstOpen (past_of self.now.journal) session) }
-        ensures more { OnOk result (is_ended session (past_of self.now.journal) ≡ false) }
-        ensures room { OnOk result (length (past_of self.now.journal) + 1 + open_count_of (past_of self.now.journal) ≤ self.now.limits.entries) }
-    {
-        match self.open_session(session) {
-            Ok(()) => {}
-            Err(fault) => return Err(fault),
-        }
-        if self.session.ended {
-            return Err(StepFault::InputEnded);
-        }
-        self.room()
-    }
-
-    /// Notes the end of a session's input. It takes no memory.
-    ///
-    /// `NoSession`: it was never opened. `Closed`: it was dropped. `InputEnded`: its input has
-    /// ended. `JournalFull`. A refusal leaves the monitor as it was.
-    pub fn end(&mut self, session: u32) -> Result<(), StepFault>
-        ensures { Next self.old (End session) (result_err result) self.new }
-    {
-        self.may_end(session)?;
-        self.session.ended = true;
-        self.journal.put(Entry::Eof { session });
         Ok(())
     }
 }

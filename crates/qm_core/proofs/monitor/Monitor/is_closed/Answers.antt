@@ -1,6 +1,4 @@
-use Rattle.std.proofs.Common.{ap, sym, ◌∙◌, arith}
-use Rattle.qm_core.specs.Legal.{past_of}
-use Rattle.qm_core.specs.Standing.{is_dropped}
+use Rattle.std.proofs.Common.{sym, arith}
 use Rattle.qm_core.proofs.KeptSessions.{other_not_dropped}
 use Rattle.qm_core.proofs.monitor.Monitor.is_closed.Goals as goal
 
