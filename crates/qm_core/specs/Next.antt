@@ -1,5 +1,6 @@
 -- The steps of a monitor: each is answered by its first refusal, or by its entry (this project's own rule).
-use Rattle.std.specs.Prelude.{◌≡◌, ℕ, ◌+◌, ◌==◌, nat_le, max, Bool, true, false, not, cond, ◌&&◌, ◌||◌, List, [], ◌∷◌, ◌++◌, length, Option, Some, None, is_some, is_none, unwrap_or}
+use Rattle.std.specs.Prelude.{◌≡◌, ℕ, ◌+◌, ◌==◌, nat_le, max, Bool, false, cond, ◌&&◌, ◌||◌, List, [], ◌∷◌, ◌++◌, length, Option, Some, None, is_some, is_none, refl}
+use Rattle.std.specs.Coded.{Coded, code_by, coded×, coded_list, coded_ℕ}
 use Rattle.qm_caps.specs.Modes.{bound_of}
 use Rattle.qm_caps.specs.declared.mode.Lane.TheVariants.{InBand}
 use Rattle.qm_core.specs.Drained.{is_drained}
@@ -100,3 +101,8 @@ pub record Next (old : Shown) (step : Step) (fault : Option StepFault) (new : Sh
   pub answer : fault ≡ refusal_of old.limits.entries (past_of old.journal) step
   pub journal : new.journal ≡ continued fault old.journal (entry_of (past_of old.journal) step)
   pub limits : new.limits ≡ old.limits
+
+-- it is stored as the limit and the journal
+abbrev pub shown_code : Coded Entry → Coded Shown
+shown_code code =
+    code_by (ℕ × List Entry) (coded× coded_ℕ (coded_list code)) (λ s. (s.limits.entries, s.journal)) (λ p. record { limits = record { entries = p.0 }; journal = p.1 }) (λ _. refl)

@@ -12,13 +12,14 @@ pub mod offers;
 mod outbox;
 mod replies;
 pub mod requests;
+mod sessions;
 pub mod verdicts;
 
 pub use entries::{Cause, Entry, StepFault};
 pub use inputs::{BadInput, FrameWord, Input, JsonWord};
 pub use journal::EntryList;
 pub use lines::LineList;
-pub use monitor::Limits;
+pub use monitor::{Limits, Monitor};
 pub use offers::Offer;
 pub use requests::{Request, Started};
 pub use verdicts::{Class, Command, Refusal, Verdict};
