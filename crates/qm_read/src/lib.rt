@@ -1,0 +1,11 @@
+//! JSON values read from their text, or the first fault of the text (RFC 8259).
+#![tactic(auto)]
+
+pub mod fault;
+pub mod stack;
+pub mod token;
+
+pub use fault::JsonFault;
+
+/// How many arrays and objects may stand one in another.
+pub const DEPTH: usize = 128;
