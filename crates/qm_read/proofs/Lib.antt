@@ -1,3 +1,5 @@
 pub mod Accepts
+pub mod FirstFaults
 pub mod Fresh
 pub mod Holds
+pub mod Runs
