@@ -1,5 +1,6 @@
 pub mod Bytes
 pub mod Faults
+pub mod Feeding
 pub mod Spelling
 pub mod Steps
 pub mod Strings
