@@ -2,7 +2,9 @@
 #![tactic(auto)]
 
 pub mod fault;
+mod reader;
 pub mod stack;
+pub mod strings;
 pub mod token;
 
 pub use fault::JsonFault;
