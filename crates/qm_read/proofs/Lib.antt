@@ -5,3 +5,4 @@ pub mod Fresh
 pub mod Holds
 pub mod Lexing
 pub mod Runs
+pub mod StringLemmas

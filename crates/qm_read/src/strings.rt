@@ -1,7 +1,7 @@
 ghost use Rattle.std.specs.Prelude.{◌≡◌, ◌≢◌, ◌+◌, ◌<◌, ◌≤◌, ◌++◌, ◌^◌, ◌&&◌, length, drop, slice_index, IsTrue, IfOk, OnOk, Ok, Err};
 ghost use Rattle.std.specs.Char.{digit_value as value_of_digit, InScalarRange};
 ghost use Rattle.std.specs.Char.Utf16.{is_high_surrogate as is_high, is_low_surrogate as is_low};
-ghost use Rattle.std.specs.Str.{continuation_len as continuation};
+ghost use Rattle.std.specs.Str.{continuation_len as continuation, is_utf8 as utf8};
 ghost use Rattle.qm_read.specs.Strings.{is_hex as of_hex, hex_of as hex, unicode_of as unicode, pair_of as pair, unicode_escape as unicode_part, escaped_byte as byte_of, escape as escape_part, character as character_part, part as part_of, text_in, more_in, text_of as text};
 
 use crate::JsonFault;
@@ -160,4 +160,131 @@ fn escaped_byte(byte: u8) -> Option<u8>
     } else {
         None
     }
+}
+
+/// What stands after so many bytes.
+fn past(text: &[u8], count: usize) -> &[u8]
+    ensures { result.now ≡ drop count text.now }
+{
+    if count < text.len() {
+        &text[count..]
+    } else {
+        &[]
+    }
+}
+
+/// The part whose backslash stands before these bytes.
+fn escape(rest: &[u8], place: u64) -> Result<Part, JsonFault>
+    ensures { result ≡ escape_part place rest.now }
+{
+    match rest {
+        [] => Err(JsonFault::BadEscape(place)),
+        [x, rest @ ..] => {
+            if *x == b'u' {
+                unicode_escape(hex_of(rest), past(rest, 4), place)
+            } else {
+                match escaped_byte(*x) {
+                    Some(c) => Ok(Part::Char(c as char, 1)),
+                    None => Err(JsonFault::BadEscape(place)),
+                }
+            }
+        }
+    }
+}
+
+fn continuation_len(byte: u8) -> usize
+    ensures value { result ≡ continuation byte }
+    ensures small { result ≤ 3 }
+{
+    if byte < 128 {
+        0
+    } else if byte < 224 {
+        1
+    } else if byte < 240 {
+        2
+    } else {
+        3
+    }
+}
+
+fn is_utf8(bytes: &[u8]) -> bool
+    ensures { result ≡ utf8 bytes.now }
+{
+    match str::from_utf8(bytes) {
+        Ok(_) => true,
+        Err(_) => false,
+    }
+}
+
+/// The part that is the character at the front.
+fn character(bytes: &[u8], place: u64) -> Result<Part, JsonFault>
+    requires { 0 < length bytes.now }
+    ensures { result ≡ character_part place (slice_index bytes.now 0) (drop 1 bytes.now) }
+{
+    let first = bytes[0];
+    if first < 0x80 {
+        return Ok(Part::Same(0));
+    }
+    let more = continuation_len(first).min(bytes.len() - 1);
+    if is_utf8(&bytes[..more + 1]) {
+        Ok(Part::Same(more))
+    } else {
+        Err(JsonFault::BadUtf8(place))
+    }
+}
+
+/// The part at the front of these bytes.
+fn first_part(bytes: &[u8], place: u64) -> Result<Part, JsonFault>
+    requires { 0 < length bytes.now }
+    ensures value { result ≡ part_of place (slice_index bytes.now 0) (drop 1 bytes.now) }
+    ensures within { IfOk result (λ p. more_in p < length bytes.now) }
+{
+    if bytes[0] == b'\\' {
+        escape(past(bytes, 1), place)
+    } else {
+        character(bytes, place)
+    }
+}
+
+/// Appends what a part at the front of these bytes stands for.
+fn append(text: &mut Text, bytes: &[u8], part: Part) -> Result<(), NoMemory>
+    requires { more_in part < length bytes.now }
+    ensures { OnOk result (text.new ≡ text.old ++ text_in part bytes.now) }
+{
+    match part {
+        Part::Same(more) => text.extend(&bytes[..more + 1]),
+        Part::Char(c, _) => {
+            let mut buffer = [0u8; 4];
+            text.extend(c.encode_utf8(&mut buffer).as_bytes())
+        }
+    }
+}
+
+fn length_after_first(part: Part) -> usize
+    ensures { result ≡ more_in part }
+{
+    match part {
+        Part::Same(more) => more,
+        Part::Char(_, more) => more,
+    }
+}
+
+/// What the bytes of a string stand for, whose quote stands at the start.
+pub fn text_of(alloc: Global, raw: &[u8], start: u64) -> Result<Text, JsonFault>
+    requires { start + 1 + length raw.now < 2 ^ 64 }
+    ensures { result ≢ Err JsonFault.Memory → result ≡ text start raw.now }
+{
+    let mut out = Text::new(alloc);
+    let mut i = 0;
+    while i < raw.len() {
+        let rest = past(raw, i);
+        match first_part(rest, start + 1 + i as u64) {
+            Ok(part) => match append(&mut out, rest, part) {
+                Ok(()) => i = i + 1 + length_after_first(part),
+                Err(NoMemory) => return Err(JsonFault::Memory),
+            },
+            Err(fault) => return Err(fault),
+        }
+    }
+    Ok(out)
 }
