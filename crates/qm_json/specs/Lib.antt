@@ -1,0 +1,5 @@
+pub mod Cleanness
+pub mod Members
+pub mod Numbers
+pub mod Printing
+pub mod Strings

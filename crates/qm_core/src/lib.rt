@@ -1,0 +1,22 @@
+//! The monitor: its journal, the steps that add to it, and the laws of every legal journal
+//! (QMP specification, "Protocol Specification").
+#![tactic(auto)]
+
+pub mod entries;
+pub mod inputs;
+mod judging;
+pub mod lines;
+pub mod monitor;
+mod replies;
+pub mod requests;
+pub mod verdicts;
+
+pub use entries::{Cause, Entry, StepFault};
+pub use inputs::{BadInput, FrameWord, Input, JsonWord};
+pub use lines::LineList;
+pub use monitor::Limits;
+pub use requests::{Request, Started};
+pub use verdicts::{Class, Command, Refusal, Verdict};
+
+/// How many sessions may ever be opened.
+pub const MOST_SESSIONS: u32 = 65_535;

@@ -1,0 +1,9 @@
+use Rattle.std.proofs.Common.{◌≡◌, ◌++◌, take, map}
+use Rattle.qm_json.specs.Printing.{joined, printed, printed_member}
+use Rattle.qm_json.proofs.printing.+write.Given as goal
+
+abbrev pub invariant-write_items-loop-i : goal.invariant-write_items-loop-i
+invariant-write_items-loop-i l = l.out ≡ l.fn.out ++ joined (map printed (take l.i l.items))
+
+abbrev pub invariant-write_members-loop-i : goal.invariant-write_members-loop-i
+invariant-write_members-loop-i l = l.out ≡ l.fn.out ++ joined (map printed_member (take l.i l.members))

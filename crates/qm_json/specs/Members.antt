@@ -1,0 +1,34 @@
+-- Members of objects by their names (RFC 8259, section 4).
+use Rattle.std.specs.Prelude.{ℕ, Bool, List, [], Option, option_map, find, map}
+use Rattle.std.specs.List.{list_any}
+use Rattle.std.specs.Str.{bytes_eq}
+use Rattle.qm_json.specs.declared.value.Json.{Json}
+use Rattle.qm_json.specs.declared.value.Json.TheOpen.{Json-F}
+use Rattle.qm_json.specs.declared.value.Json.{out-Json}
+use Rattle.qm_json.specs.declared.value.Json.TheOpen as layer
+use Rattle.qm_json.specs.declared.value.Member.{Member}
+
+-- some member has the name
+abbrev pub has_name : List Member → List ℕ → Bool
+has_name members name = list_any (λ m. bytes_eq m.name name) members
+
+-- the value of the first member of the name
+abbrev pub value_in : List Member → List ℕ → Option Json
+value_in members name = option_map (λ m. m.value) (find (λ m. bytes_eq m.name name) members)
+
+abbrev pub layer_members : Json-F Json Member → List Member
+layer_members layer.Json-F.Null = []
+layer_members (layer.Json-F.Bool b) = []
+layer_members (layer.Json-F.Int n) = []
+layer_members (layer.Json-F.Num text) = []
+layer_members (layer.Json-F.Str bytes) = []
+layer_members (layer.Json-F.Arr items) = []
+layer_members (layer.Json-F.Obj members) = members
+
+-- the members of an object; any other value has none
+abbrev pub members_of : Json → List Member
+members_of value = layer_members (out-Json value)
+
+-- the value of an object's first member of the name
+abbrev pub member_of : Json → List ℕ → Option Json
+member_of value name = value_in (members_of value) name

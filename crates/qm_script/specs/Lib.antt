@@ -1,0 +1,5 @@
+pub mod Endings
+pub mod Fed
+pub mod Lines
+pub mod Orders
+pub mod Playing
