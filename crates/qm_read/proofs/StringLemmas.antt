@@ -88,14 +88,15 @@ first_stands (x ∷ rest) place p h e =
     ∙ ap (followed_by (text_in p (x ∷ rest))) (passed (more_in p) (place + 1) rest)
 
 -- after some text, the part p stands at i of the raw bytes
-pub next_part : (whole : Result (List ℕ) JsonFault) (raw out bytes : List ℕ) (start i more : ℕ) (p : Part) → bytes ≡ drop i raw → 0 < length bytes → Ok p ≡ part (start + 1 + i) (slice_index bytes 0) (drop 1 bytes) → more ≡ more_in p →
+pub next_part : (whole : Result (List ℕ) JsonFault) (raw out new bytes : List ℕ) (start i more : ℕ) (p : Part) → bytes ≡ drop i raw → 0 < length bytes → Ok p ≡ part (start + 1 + i) (slice_index bytes 0) (drop 1 bytes) → more ≡ more_in p → new ≡ out ++ text_in p bytes →
     followed_by out (text_after 0 (start + 1 + i) (drop i raw)) ≡ whole →
-    followed_by (out ++ text_in p bytes) (text_after 0 (start + 1 + (i + 1 + more)) (drop (i + 1 + more) raw)) ≡ whole
-next_part whole raw out bytes start i more p b h e m w =
+    followed_by new (text_after 0 (start + 1 + (i + 1 + more)) (drop (i + 1 + more) raw)) ≡ whole
+next_part whole raw out new bytes start i more p b h e m n w =
     let place : start + 1 + (i + 1 + more) ≡ start + 1 + i + 1 + more_in p = omega (arith, m) in
     let count : i + 1 + more ≡ i + suc (more_in p) = omega (arith, m) in
     let left : drop (i + 1 + more) raw ≡ drop (suc (more_in p)) bytes = ap (λ (n : ℕ). drop n raw) count ∙ sym (drop-drop (suc (more_in p)) i raw) ∙ ap (λ (l : List ℕ). drop (suc (more_in p)) l) (sym b) in
-    sym (followed_by-twice out (text_in p bytes) (text_after 0 (start + 1 + (i + 1 + more)) (drop (i + 1 + more) raw)))
+    ap (λ (l : List ℕ). followed_by l (text_after 0 (start + 1 + (i + 1 + more)) (drop (i + 1 + more) raw))) n
+    ∙ sym (followed_by-twice out (text_in p bytes) (text_after 0 (start + 1 + (i + 1 + more)) (drop (i + 1 + more) raw)))
     ∙ ap (λ (n : ℕ). followed_by out (followed_by (text_in p bytes) (text_after 0 n (drop (i + 1 + more) raw)))) place
     ∙ ap (λ (l : List ℕ). followed_by out (followed_by (text_in p bytes) (text_after 0 (start + 1 + i + 1 + more_in p) l))) left
     ∙ ap (followed_by out) (sym (first_stands bytes (start + 1 + i) p h (sym e)))

@@ -18,5 +18,4 @@ loop-i-preserved c =
     let some : 0 < length c.past-rest.result.now = omega arith in
     record {
       within = omega (arith, c.in-Ok.ensures.within, c.length_after_first.ensures);
-      decoded = ap (λ (out : List ℕ). followed_by out (text_after 0 (c.args.start + 1 + (c.loop-i.i + 1 + c.length_after_first.result)) _)) c.in-Ok-append.ensures
-        ∙ next_part _ c.args.raw.now c.loop-i.out c.past-rest.result.now c.args.start c.loop-i.i c.length_after_first.result c.in-Ok.part c.past-rest.ensures some c.in-Ok.ensures.value c.length_after_first.ensures c.loop-i.invariant.decoded }
+      decoded = next_part _ c.args.raw.now c.loop-i.out c.append.new.text c.past-rest.result.now c.args.start c.loop-i.i c.length_after_first.result c.in-Ok.part c.past-rest.ensures some c.in-Ok.ensures.value c.length_after_first.ensures c.in-Ok-append.ensures c.loop-i.invariant.decoded }
