@@ -8,7 +8,8 @@ use Rattle.qm_read.specs.declared.token.Last.{Last}
 use Rattle.qm_read.specs.declared.token.Last.TheVariants.{Whole, Number, Word, Str}
 use Rattle.qm_read.specs.declared.token.Token.{Token}
 use Rattle.qm_read.specs.declared.token.Placed.{Placed}
-use Rattle.qm_read.specs.Bytes.{Byte, codes_of, first_not, is_space, begins_number, is_in_number, is_letter, is_quote}
+use Rattle.qm_frame.specs.Bytes.{is_space, begins_number, in_number, is_letter, is_quote}
+use Rattle.qm_read.specs.Bytes.{Byte, codes_of, first_not}
 use Rattle.qm_read.specs.Strings.{takes_next, ends_string, raw_length, is_escaping}
 use Rattle.qm_read.specs.Tokens.{at, number_token, word_token, mark_token, run_to, ended_string, string_at, string_to, piece, found}
 use Rattle.qm_read.specs.Feeding.{begins, moved}
@@ -136,7 +137,7 @@ string-grows x rest z = subst (λ (o : Option ℕ). Next (length rest) z (string
 piece-grows : (y : Byte) (ys : List Byte) (z : Byte) → Next (length ys) z (piece y ys) (piece y (ys ++ z ∷ []))
 piece-grows y ys z =
     cond-grows (is_space y.code) _ z _ _ _ _ (refl, omega arith)
-    (cond-grows (begins_number y.code) _ z _ _ _ _ (run-grows is_in_number (Number y.place) (number_token y.place) y ys z (λ text b. refl))
+    (cond-grows (begins_number y.code) _ z _ _ _ _ (run-grows in_number (Number y.place) (number_token y.place) y ys z (λ text b. refl))
     (cond-grows (is_letter y.code) _ z _ _ _ _ (run-grows is_letter (Word y.place) (word_token y.place) y ys z (λ text b. refl))
     (cond-grows (is_quote y.code) _ z _ _ _ _ (string-grows y ys z)
     (refl, omega arith))))

@@ -8,7 +8,8 @@ use Rattle.qm_read.specs.declared.fault.JsonFault.TheVariants.{Memory}
 use Rattle.qm_read.specs.declared.token.Last.{Last}
 use Rattle.qm_read.specs.declared.token.Last.TheVariants.{Whole, Number, Word, Str}
 use Rattle.qm_read.specs.declared.token.Placed.{Placed}
-use Rattle.qm_read.specs.Bytes.{Byte, is_space, begins_number, is_in_number, is_letter, is_quote}
+use Rattle.qm_frame.specs.Bytes.{is_space, begins_number, in_number, is_letter, is_quote}
+use Rattle.qm_read.specs.Bytes.{Byte}
 use Rattle.qm_read.specs.Strings.{takes_next, ends_string}
 use Rattle.qm_read.specs.Tokens.{at, number_token, word_token, mark_token, ended_string, closing}
 use Rattle.qm_read.specs.Steps.{State}
@@ -29,7 +30,7 @@ after_token t f = record { answers = t ∷ f.answers; rest = f.rest }
 -- the byte lengthens the piece
 abbrev pub continues : Last → ℕ → Bool
 continues Whole c = false
-continues (Number place text) c = is_in_number c
+continues (Number place text) c = in_number c
 continues (Word place text) c = is_letter c
 continues (Str place quote taken raw) c = not (ends_string quote taken c)
 

@@ -8,7 +8,11 @@ use Rattle.qm_read.specs.declared.fault.JsonFault.{JsonFault}
 use Rattle.qm_read.specs.declared.fault.JsonFault.TheVariants.{BadEscape, BadUtf8}
 use Rattle.qm_read.specs.declared.strings.Part.{Part}
 use Rattle.qm_read.specs.declared.strings.Part.TheVariants.{Same, Char}
-use Rattle.qm_read.specs.Bytes.{Byte, is_control}
+use Rattle.qm_read.specs.Bytes.{Byte}
+
+-- a control character, which stands in no string
+abbrev pub is_control : ℕ → Bool
+is_control x = nat_lt x 32
 
 -- a backslash takes the next byte, unless a backslash took it
 abbrev pub takes_next : Bool → ℕ → Bool

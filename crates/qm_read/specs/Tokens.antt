@@ -11,7 +11,8 @@ use Rattle.qm_read.specs.declared.token.Last.TheVariants.{Whole, Number, Word, S
 use Rattle.qm_read.specs.declared.token.Token.{Token}
 use Rattle.qm_read.specs.declared.token.Token.TheVariants as tokens
 use Rattle.qm_read.specs.declared.token.Placed.{Placed}
-use Rattle.qm_read.specs.Bytes.{Byte, numbered, codes_of, first_not, is_space, begins_number, is_in_number, is_letter, is_quote}
+use Rattle.qm_frame.specs.Bytes.{is_space, begins_number, in_number, is_letter, is_quote}
+use Rattle.qm_read.specs.Bytes.{Byte, numbered, codes_of, first_not}
 use Rattle.qm_read.specs.Strings.{raw_length, is_escaping, text_of}
 
 abbrev pub at : Token → ℕ → Placed
@@ -70,7 +71,7 @@ string_to x rest (Some n) = string_at x (codes_of (take n rest)) n (drop n rest)
 abbrev pub piece : Byte → List Byte → Front Placed Last
 piece x rest =
     cond (is_space x.code) (Piece [] 0)
-    (cond (begins_number x.code) (run_to (Number x.place) (number_token x.place) x rest (first_not is_in_number rest))
+    (cond (begins_number x.code) (run_to (Number x.place) (number_token x.place) x rest (first_not in_number rest))
     (cond (is_letter x.code) (run_to (Word x.place) (word_token x.place) x rest (first_not is_letter rest))
     (cond (is_quote x.code) (string_to x rest (raw_length x.code false rest))
     (Piece (at (mark_token x.place x.code) x.place ∷ []) 0))))
