@@ -1,5 +1,5 @@
 -- The literals of numbers, by examples of RFC 8259, sections 6 and 13, and of the range's ends.
-use Rattle.std.proofs.Common.{◌≡◌, ◌^◌, ◌-◌, Bool, true, false, Some, None, ℤ, pos, negsuc, refl, map, List, [], ◌∷◌, ℕ}
+use Rattle.std.proofs.Common.{◌≡◌, ◌^◌, ◌-◌, true, false, Some, None, pos, negsuc, refl, map, [], ◌∷◌}
 use Rattle.std.specs.Prelude.{codes}
 use Rattle.qm_json.specs.Numbers.{is_literal, whole_of}
 
