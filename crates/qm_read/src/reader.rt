@@ -1,5 +1,4 @@
 ghost use Rattle.std.specs.Prelude.{◌≡◌, List, OnOk, ◌∷◌, IfOk};
-ghost use Rattle.qm_json.specs.Members.{has_name as named};
 ghost use Rattle.qm_read.specs.Faults.{whole};
 ghost use Rattle.qm_read.specs.Feeding.{Steps};
 ghost use Rattle.qm_read.specs.Steps.{begun, step, takes_value as of_value, takes_name as of_name, given, after_value as next_after, ends_array as array_end, ends_object as object_end, value_step, open_step, name_step, after_comma as comma_then, left};
@@ -8,7 +7,7 @@ use crate::stack::{Expect, Open};
 use crate::token::Token;
 use crate::{DEPTH, JsonFault};
 use qm_base::{NoMemory, Text};
-use qm_json::{Json, Member};
+use qm_json::{Json, Member, has_member};
 use sqlite_items::Items;
 use std::alloc::Global;
 use std::marker::Model;
@@ -116,12 +115,6 @@ fn ends_object(expect: Expect) -> bool
     }
 }
 
-fn has_name(members: &[Member], name: &[u8]) -> bool
-    ensures { result ≡ named members.now name.now }
-{
-    members.iter().any(|m| m.name.as_slice() == name)
-}
-
 impl Reader {
     pub fn new(alloc: Global) -> Reader
         ensures { result ≡ begun }
@@ -183,7 +176,7 @@ impl Reader {
     {
         match &mut self.current {
             Open::Obj(members, name) => {
-                if has_name(members.as_slice(), text.as_slice()) {
+                if has_member(members.as_slice(), text.as_slice()) {
                     return Err(JsonFault::Duplicate(place));
                 }
                 *name = text;
