@@ -4,5 +4,6 @@ pub mod FirstFaults
 pub mod Fresh
 pub mod Holds
 pub mod Lexing
+pub mod LiteralLemmas
 pub mod Runs
 pub mod StringLemmas

@@ -1,7 +1,6 @@
 -- What one more byte does. This serves private functions: the reading of a text is stated without it.
-use Rattle.std.specs.Prelude.{◌≡◌, ◌≢◌, ℕ, ◌+◌, ◌≤◌, Bool, true, false, not, cond, List, [], ◌∷◌, ◌++◌, length, Result, Ok, Err}
+use Rattle.std.specs.Prelude.{◌≡◌, ◌≢◌, ℕ, ◌+◌, ◌≤◌, Bool, false, not, cond, List, [], ◌∷◌, ◌++◌, length, Option, Some, None, Result, Ok, Err}
 use Rattle.qm_base.specs.Search.{Found}
-use Rattle.qm_base.specs.declared.text.NoMemory.{NoMemory}
 use Rattle.qm_json.specs.declared.value.Json.{Json}
 use Rattle.qm_read.specs.declared.fault.JsonFault.{JsonFault}
 use Rattle.qm_read.specs.declared.fault.JsonFault.TheVariants.{Memory}
@@ -77,8 +76,7 @@ abbrev pub Finds : State → Found Placed Last → Result (Unit {0}) JsonFault �
 Finds s f (Ok u) new = (run s f.answers ≡ Ok new.state) × (new.last ≡ f.rest)
 Finds s f (Err fault) new = fault ≢ Memory → run s f.answers ≡ Err fault
 
--- the piece was lengthened, or the byte is none of it
-abbrev pub Lengthens : Last → ℕ → Result Bool NoMemory → Last → Type 0
-Lengthens old c (Ok true) new = (continues old c ≡ true) × (new ≡ grown old c)
-Lengthens old c (Ok false) new = (continues old c ≡ false) × (new ≡ old)
-Lengthens old c (Err e) new = Unit {0}
+-- at most one token was made
+abbrev pub Closes : List Placed → Option Placed → Type 0
+Closes ts None = ts ≡ []
+Closes ts (Some t) = ts ≡ t ∷ []

@@ -2,6 +2,7 @@
 #![tactic(auto)]
 
 pub mod fault;
+mod lexer;
 mod literals;
 mod reader;
 pub mod stack;
