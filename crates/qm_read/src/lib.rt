@@ -2,6 +2,7 @@
 #![tactic(auto)]
 
 pub mod fault;
+mod intake;
 mod lexer;
 mod literals;
 mod reader;
