@@ -1,17 +1,19 @@
 -- A text fed byte by byte is read as it is read whole.
-use Rattle.std.proofs.Common.{◌≡◌, ℕ, ◌+◌, ◌<◌, suc, List, [], ◌∷◌, ◌++◌, drop, length, Result, Ok, Err, refl, ap, sym, ◌∙◌, append_assoc, append-nil, get_or, drop-cons}
+use Rattle.std.proofs.Common.{◌≡◌, ℕ, ◌+◌, ◌<◌, Bool, true, false, not, cond, suc, List, [], ◌∷◌, ◌++◌, drop, length, Result, Ok, Err, refl, ap, sym, ◌∙◌, append_assoc, append-nil, get_or, drop-cons, length-append, arith}
 use Rattle.std.proofs.Math.Seq.{drop-length}
 use Rattle.qm_base.specs.Search.{Found}
 use Rattle.qm_json.specs.declared.value.Json.{Json}
 use Rattle.qm_read.specs.declared.fault.JsonFault.{JsonFault}
 use Rattle.qm_read.specs.declared.token.Last.{Last}
-use Rattle.qm_read.specs.declared.token.Last.TheVariants.{Whole}
+use Rattle.qm_read.specs.declared.token.Last.TheVariants.{Whole, Number, Word, Str}
 use Rattle.qm_read.specs.declared.token.Placed.{Placed}
 use Rattle.qm_read.specs.Bytes.{Byte, numbered}
 use Rattle.qm_read.specs.Tokens.{found, closing, tokens_in, tokens_of}
 use Rattle.qm_read.specs.Steps.{State, begun}
 use Rattle.qm_read.specs.Faults.{run, on, ended, reading, reading_of}
-use Rattle.qm_read.specs.Feeding.{moved, fed}
+use Rattle.qm_read.specs.Feeding.{begins, moved, fed, LiesBefore}
+use Rattle.qm_read.specs.Strings.{ends_string}
+use Rattle.qm_frame.specs.Bytes.{is_space, begins_number, in_number, is_letter, is_quote}
 use Rattle.qm_read.proofs.Lexing.{found-more}
 use Rattle.qm_read.proofs.Runs.{run-append}
 
@@ -46,3 +48,25 @@ refused text i last s f n whole lt e w =
 -- the text's end
 pub at_end : (text : List ℕ) (i : ℕ) (last : Last) (s : State) (n : ℕ) (whole : Result Json JsonFault) → i ≡ length text → fed last (Ok s) (numbered i (drop i text)) n ≡ whole → fed last (Ok s) [] n ≡ whole
 at_end text i last s n whole e w = ap (λ (l : List ℕ). fed last (Ok s) (numbered i l) n) (sym (ap (λ (k : ℕ). drop k text) e ∙ drop-length text)) ∙ w
+
+-- the last piece lies before a place
+abbrev Before : ℕ → Found Placed Last → Type 0
+Before place f = LiesBefore f.rest place
+
+cond-before : (b : Bool) (place : ℕ) (f g : Found Placed Last) → Before place f → Before place g → Before place (cond b f g)
+cond-before true place f g h k = h
+cond-before false place f g h k = k
+
+begins-before : (x : Byte) → Before (x.place + 1) (begins x)
+begins-before x =
+    cond-before (is_space x.code) _ _ _ tt
+    (cond-before (begins_number x.code) _ _ _ tt
+    (cond-before (is_letter x.code) _ _ _ tt
+    (cond-before (is_quote x.code) _ _ _ (omega arith) tt)))
+
+-- what was read lies before the next byte
+pub lies_before : (last : Last) (x : Byte) → LiesBefore last x.place → LiesBefore (moved last x).rest (x.place + 1)
+lies_before Whole x h = begins-before x
+lies_before (Number start text) x h = cond-before (in_number x.code) _ _ _ tt (begins-before x)
+lies_before (Word start text) x h = cond-before (is_letter x.code) _ _ _ tt (begins-before x)
+lies_before (Str start quote taken raw) x h = cond-before (not (ends_string quote taken x.code)) _ _ _ (omega (arith, h, length-append raw (x.code ∷ []))) tt

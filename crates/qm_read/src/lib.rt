@@ -6,11 +6,13 @@ mod intake;
 mod lexer;
 mod literals;
 mod reader;
+mod reading;
 pub mod stack;
 pub mod strings;
 pub mod token;
 
 pub use fault::JsonFault;
+pub use reading::{each_fault_is_the_first, each_value_is_spelled, read};
 
 /// How many arrays and objects may stand one in another.
 pub const DEPTH: usize = 128;
