@@ -1,5 +1,7 @@
 pub mod Chunks
+pub mod CleanLaws
 pub mod Joined
 pub mod Measures
+mod NumberExamples
 pub mod Plain
 pub mod Texts

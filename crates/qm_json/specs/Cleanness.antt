@@ -1,6 +1,6 @@
 -- Values that a text can spell: strings and names are UTF-8, the names of an object are distinct,
 -- a whole number is in its range, and any other number is a literal that is no whole number.
-use Rattle.std.specs.Prelude.{ℕ, Bool, true, false, not, ◌&&◌, List, [], ◌∷◌, map, IsTrue}
+use Rattle.std.specs.Prelude.{ℕ, Bool, true, not, ◌&&◌, List, [], ◌∷◌, map, IsTrue}
 use Rattle.std.specs.List.{list_all, list_any}
 use Rattle.std.specs.Str.{bytes_eq, is_utf8}
 use Rattle.qm_json.specs.Numbers.{is_literal, is_whole_literal, is_in_whole_range}
