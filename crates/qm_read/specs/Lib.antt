@@ -1,6 +1,7 @@
 pub mod Bytes
 pub mod Faults
 pub mod Feeding
+pub mod Inputs
 pub mod Spelling
 pub mod Steps
 pub mod Strings

@@ -7,12 +7,17 @@ mod lexer;
 mod literals;
 mod reader;
 mod reading;
-pub mod stack;
-pub mod strings;
-pub mod token;
+mod stack;
+mod strings;
+pub mod taken;
+mod token;
 
 pub use fault::JsonFault;
 pub use reading::{each_fault_is_the_first, each_value_is_spelled, read};
+pub use taken::Taken;
 
 /// How many arrays and objects may stand one in another.
 pub const DEPTH: usize = 128;
+
+#[cfg(test)]
+mod tests;
