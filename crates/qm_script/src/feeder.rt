@@ -5,7 +5,7 @@ ghost use Rattle.qm_script.specs.Fed.{frame_word_of, text_input_of, input_of, fe
 use qm_base::{NoMemory, Shared};
 use qm_core::{BadInput, FrameWord, Input, JsonWord};
 use qm_frame::{FrameFault, Framer, Step};
-use qm_read::{JsonFault, Taken, read_frame};
+use qm_read::{JsonFault, Taken};
 use std::alloc::Global;
 use std::marker::Model;
 
@@ -86,7 +86,7 @@ fn push(
     match framer.push(byte) {
         Step::More => Ok(()),
         Step::Bad(fault) => keep(inputs, alloc, Taken::BadFrame(fault)),
-        Step::Frame => match read_frame(alloc, framer.frame()) {
+        Step::Frame => match Taken::of_message(alloc, framer.frame()) {
             Ok(taken) => keep(inputs, alloc, taken),
             Err(NoMemory) => Err(NoMemory),
         },
@@ -95,6 +95,7 @@ fn push(
 
 impl Feeder {
     /// A feeder that was fed nothing.
+    #[tactic(auto, using(crate::proofs::FedLemmas::fed_inputs_of_nothing))]
     pub fn new(alloc: Global) -> Result<Feeder, NoMemory>
         ensures { IfOk result (λ feeder. feeder ≡ []) }
     {

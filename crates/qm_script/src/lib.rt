@@ -3,8 +3,10 @@
 
 pub mod closings;
 pub mod endings;
+pub mod feeder;
 pub mod lines;
 pub mod orders;
+pub mod player;
 pub mod replays;
 
 pub use endings::{PlayEnd, Refused, StepWord, Stop};
