@@ -1,4 +1,5 @@
 pub mod Accepts
+pub mod CleanTexts
 pub mod Feeds
 pub mod FirstFaults
 pub mod Fresh
