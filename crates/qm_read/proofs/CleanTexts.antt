@@ -31,11 +31,11 @@ bad_escape place e = cc
 bad_utf8 : (place : ℕ) → BadUtf8 place ≢ Memory
 bad_utf8 place e = cc
 
-first : (a b : Bool) → (a && b) ≡ true → a ≡ true
+pub first : (a b : Bool) → (a && b) ≡ true → a ≡ true
 first true b h = refl
 first false b h = h
 
-second : (a b : Bool) → (a && b) ≡ true → b ≡ true
+pub second : (a b : Bool) → (a && b) ≡ true → b ≡ true
 second true b h = h
 second false b h = cc
 
