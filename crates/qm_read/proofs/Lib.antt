@@ -1,4 +1,7 @@
 pub mod Accepts
+pub mod CleanTexts
+pub mod CleanTokens
+pub mod CleanValues
 pub mod Feeds
 pub mod FirstFaults
 pub mod Fresh

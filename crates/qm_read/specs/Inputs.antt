@@ -3,6 +3,7 @@
 use Rattle.std.specs.Prelude.{ℕ, List, map, Result, Ok, Err}
 use Rattle.qm_frame.specs.Framing.{frames_of}
 use Rattle.qm_frame.specs.declared.step.FrameFault.{FrameFault}
+use Rattle.qm_json.specs.Cleanness.{IsClean}
 use Rattle.qm_json.specs.declared.value.Json.{Json}
 use Rattle.qm_read.specs.Faults.{reading_of}
 use Rattle.qm_read.specs.declared.fault.JsonFault.{JsonFault}
@@ -21,3 +22,9 @@ taken_of (Err fault) = BadFrame fault
 -- what the frames of the bytes are read as
 abbrev pub inputs_of : List ℕ → List Taken
 inputs_of bytes = map taken_of (frames_of bytes)
+
+-- what was taken has no value that is not clean
+abbrev pub IsCleanInput : Taken → Type 0
+IsCleanInput (Value value) = IsClean value
+IsCleanInput (BadFrame fault) = Unit {0}
+IsCleanInput (BadText fault) = Unit {0}

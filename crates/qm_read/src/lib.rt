@@ -13,7 +13,9 @@ pub mod taken;
 mod token;
 
 pub use fault::JsonFault;
-pub use reading::{each_fault_is_the_first, each_value_is_spelled, read};
+pub use reading::{
+    each_fault_is_the_first, each_value_is_clean, each_value_is_spelled, memory_is_no_fault, read,
+};
 pub use taken::Taken;
 
 /// How many arrays and objects may stand one in another.

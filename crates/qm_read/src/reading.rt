@@ -1,4 +1,5 @@
-ghost use Rattle.std.specs.Prelude.{ℕ, List, ◌↔◌, ◌≡◌, ◌≢◌, length, Ok, Err};
+ghost use Rattle.std.specs.Prelude.{ℕ, List, ◌↔◌, ◌≡◌, ◌≢◌, length, IfOk, Ok, Err};
+ghost use Rattle.qm_json.specs.Cleanness.{IsClean};
 ghost use Rattle.qm_read.specs.Faults.{reading_of};
 ghost use Rattle.qm_read.specs.Texts.{Spells};
 ghost use Rattle.qm_read.specs.Tokens.{tokens_of};
@@ -13,7 +14,8 @@ use std::alloc::Global;
 /// fault of the text: each token is looked at from the left, first by itself, then whether it may
 /// stand there, then whether it is a name that the object has already.
 pub fn read(alloc: Global, text: &[u8]) -> Result<Json, JsonFault>
-    ensures { result ≢ Err JsonFault.Memory → result ≡ reading_of text.now }
+    ensures value { result ≢ Err JsonFault.Memory → result ≡ reading_of text.now }
+    ensures clean { IfOk result IsClean }
 {
     let mut intake = Intake::new(alloc);
     for (i, byte) in text.iter().enumerate() {
@@ -34,4 +36,14 @@ pub fn each_value_is_spelled()
 /// nothing does.
 pub fn each_fault_is_the_first()
     ensures { (text : List ℕ) (fault : JsonFault) → reading_of text ≡ Err fault → FirstFault (tokens_of text) (length text) fault }
+{}
+
+/// What a text is read as is clean.
+pub fn each_value_is_clean()
+    ensures { (text : List ℕ) (value : Json) → reading_of text ≡ Ok value → IsClean value }
+{}
+
+/// Want of memory is no fault of a text.
+pub fn memory_is_no_fault()
+    ensures { (text : List ℕ) → reading_of text ≢ Err JsonFault.Memory }
 {}

@@ -1,5 +1,5 @@
 ghost use Rattle.std.specs.Prelude.{◌≡◌, IfOk, Ok};
-ghost use Rattle.qm_read.specs.Inputs.{taken_of};
+ghost use Rattle.qm_read.specs.Inputs.{IsCleanInput, taken_of};
 
 use crate::JsonFault;
 use crate::reading::read;
@@ -22,7 +22,8 @@ pub enum Taken {
 impl Taken {
     /// What a message is read as.
     pub fn of_message(alloc: Global, message: &[u8]) -> Result<Taken, NoMemory>
-        ensures { IfOk result (λ taken. taken ≡ taken_of (Ok message.now)) }
+        ensures value { IfOk result (λ taken. taken ≡ taken_of (Ok message.now)) }
+        ensures clean { IfOk result IsCleanInput }
     {
         match read(alloc, message) {
             Ok(value) => Ok(Taken::Value(value)),
