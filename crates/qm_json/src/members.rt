@@ -36,19 +36,11 @@ impl Model for Members {
     ghost view = { λ m. m.items };
 }
 
-/// The value of the first member of the name.
 fn find<'a>(members: &'a [Member], name: &[u8]) -> Option<&'a Json>
     ensures { option_copied result ≡ value_in members.now name.now }
 {
     let member = members.iter().find(|m| m.name.as_slice() == name)?;
     Some(&member.value)
-}
-
-/// Whether a member has the name.
-pub fn has_member(members: &[Member], name: &[u8]) -> bool
-    ensures { result ≡ has_name members.now name.now }
-{
-    members.iter().any(|m| m.name.as_slice() == name)
 }
 
 impl Members {
@@ -68,6 +60,14 @@ impl Members {
         self.items.as_slice()
     }
 
+    /// Whether a member has the name.
+    pub fn has(&self, name: &[u8]) -> bool
+        ensures { result ≡ has_name self.now name.now }
+    {
+        let members = self.items.as_slice();
+        members.iter().any(|m| m.name.as_slice() == name)
+    }
+
     /// Appends a member. `Twice` comes exactly where the name is there; after an error the members
     /// are as before.
     pub fn push(&mut self, name: Text, value: Json) -> Result<(), MemberFault>
@@ -76,7 +76,7 @@ impl Members {
         ensures twice { (result ≡ Err MemberFault.Twice) ↔ (has_name self.old name ≡ true) }
         ensures fresh { OnOk result (has_name self.old name ≡ false) }
     {
-        if has_member(self.items.as_slice(), name.as_slice()) {
+        if self.has(name.as_slice()) {
             return Err(MemberFault::Twice);
         }
         match self.items.push(Member { name, value }) {
