@@ -2,10 +2,16 @@
 //! prefixes of lists, counts of faults, and the search for pieces from the front of a list.
 #![tactic(auto)]
 
+pub mod calls;
 pub mod history;
+pub mod numerals;
+pub mod reserved;
 pub mod shared;
 pub mod text;
 
+pub use calls::CallList;
 pub use history::History;
+pub use numerals::number;
+pub use reserved::ReservedList;
 pub use shared::Shared;
 pub use text::{NoMemory, Text};

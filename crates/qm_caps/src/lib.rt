@@ -1,0 +1,9 @@
+//! Capabilities of a session (QMP specification, "Capabilities"): modes, lanes, the bound of
+//! requests in flight, and the greeting.
+#![tactic(auto)]
+
+pub mod greetings;
+pub mod mode;
+
+pub use greetings::{greeting, version};
+pub use mode::{Lane, Mode, bound};

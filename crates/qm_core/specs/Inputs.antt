@@ -1,0 +1,55 @@
+-- What an input says (QMP specification, "Issuing Commands").
+use Rattle.std.specs.Prelude.{ℕ, Bool, true, false, ◌||◌, List, [], ◌∷◌, codes, Option, Some, None, unwrap_or, find}
+use Rattle.std.specs.Option.{option_and_then}
+use Rattle.std.specs.Str.{bytes_eq}
+use Rattle.qm_json.specs.declared.value.Json.{Json, out-Json}
+use Rattle.qm_json.specs.declared.value.Json.TheOpen.{Json-F}
+use Rattle.qm_json.specs.declared.value.Json.TheOpen as layer
+use Rattle.qm_json.specs.declared.value.Member.{Member}
+use Rattle.qm_json.specs.Members.{members_of}
+use Rattle.qm_json.specs.Cleanness.{IsClean}
+use Rattle.qm_core.specs.declared.inputs.Input.{Input}
+use Rattle.qm_core.specs.declared.inputs.Input.TheVariants.{Doc, Bad}
+
+-- a value in it is one that a text can spell
+abbrev pub IsCleanInput : Input → Type 0
+IsCleanInput (Doc value) = IsClean value
+IsCleanInput (Bad bad) = Unit {0}
+
+abbrev pub layer_is_object : Json-F Json Member → Bool
+layer_is_object layer.Json-F.Null = false
+layer_is_object (layer.Json-F.Bool b) = false
+layer_is_object (layer.Json-F.Int n) = false
+layer_is_object (layer.Json-F.Num text) = false
+layer_is_object (layer.Json-F.Str bytes) = false
+layer_is_object (layer.Json-F.Arr items) = false
+layer_is_object (layer.Json-F.Obj members) = true
+
+abbrev pub is_object : Json → Bool
+is_object value = layer_is_object (out-Json value)
+
+abbrev pub layer_string : Json-F Json Member → Option (List ℕ)
+layer_string layer.Json-F.Null = None
+layer_string (layer.Json-F.Bool b) = None
+layer_string (layer.Json-F.Int n) = None
+layer_string (layer.Json-F.Num text) = None
+layer_string (layer.Json-F.Str bytes) = Some bytes
+layer_string (layer.Json-F.Arr items) = None
+layer_string (layer.Json-F.Obj members) = None
+
+-- the bytes of a string
+abbrev pub string_of : Json → Option (List ℕ)
+string_of value = layer_string (out-Json value)
+
+-- a member that names a command
+abbrev pub is_verb : Member → Bool
+is_verb m = bytes_eq m.name (codes "execute") || bytes_eq m.name (codes "exec-oob")
+
+-- the command that an object names, where it names one
+abbrev pub command_name_of : Json → Option (List ℕ)
+command_name_of value = option_and_then (λ m. string_of m.value) (find is_verb (members_of value))
+
+-- the same of an input
+abbrev pub command_of : Input → Option (List ℕ)
+command_of (Doc value) = command_name_of value
+command_of (Bad bad) = None

@@ -1,0 +1,21 @@
+-- Legal journals, and the room of a journal (this project's own rule).
+use Rattle.std.specs.Prelude.{ℕ, ◌+◌, ◌≤◌, List, [], ◌∷◌, length, reverse}
+use Rattle.qm_core.specs.Order.{MayFollow}
+use Rattle.qm_core.specs.Standing.{open_count_of}
+use Rattle.qm_core.specs.declared.entries.Entry.{Entry}
+
+-- the entries of a journal, the newest first
+abbrev pub past_of : List Entry → List Entry
+past_of journal = reverse journal
+
+abbrev pub AllFollow : List Entry → Type 0
+AllFollow [] = Unit {0}
+AllFollow (e ∷ past) = MayFollow past e × AllFollow past
+
+-- each entry may come after those before it
+abbrev pub IsLegal : List Entry → Type 0
+IsLegal journal = AllFollow (past_of journal)
+
+-- each open session has kept the place of its drop
+abbrev pub HasRoom : ℕ → List Entry → Type 0
+HasRoom entries past = length past + open_count_of past ≤ entries

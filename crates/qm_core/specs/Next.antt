@@ -1,0 +1,102 @@
+-- The steps of a monitor: each is answered by its first refusal, or by its entry (this project's own rule).
+use Rattle.std.specs.Prelude.{◌≡◌, ℕ, ◌+◌, ◌==◌, nat_le, max, Bool, true, false, not, cond, ◌&&◌, ◌||◌, List, [], ◌∷◌, ◌++◌, length, Option, Some, None, is_some, is_none, unwrap_or}
+use Rattle.qm_caps.specs.Modes.{bound_of}
+use Rattle.qm_caps.specs.declared.mode.Lane.TheVariants.{InBand}
+use Rattle.qm_core.specs.Drained.{is_drained}
+use Rattle.qm_core.specs.Legal.{past_of}
+use Rattle.qm_core.specs.Order.{reply_of}
+use Rattle.qm_core.specs.Standing.{sessions_of, was_opened, is_dropped, is_ended, open_count_of, admitted_of, in_flight_of, mode_of, running_of, starting_of, named_of, last_moment_of}
+use Rattle.qm_core.specs.Transcript.{untaken_of}
+use Rattle.qm_core.specs.declared.TheConstants.{MOST_SESSIONS}
+use Rattle.qm_core.specs.declared.entries.Cause.{Cause}
+use Rattle.qm_core.specs.declared.entries.Cause.TheVariants as cause
+use Rattle.qm_core.specs.declared.entries.Entry.{Entry}
+use Rattle.qm_core.specs.declared.entries.Entry.TheVariants as entry
+use Rattle.qm_core.specs.declared.entries.StepFault.{StepFault}
+use Rattle.qm_core.specs.declared.entries.StepFault.TheVariants.{NoSession, Closed, InputEnded, Busy, Nothing, NotRunning, NotDrained, WrongCause, SessionsFull, JournalFull}
+use Rattle.qm_core.specs.declared.inputs.Input.{Input}
+use Rattle.qm_core.specs.declared.monitor.Limits.{Limits}
+use Rattle.qm_core.specs.declared.requests.Started.{Started}
+
+-- what is asked of a monitor
+pub data Step : Type 0 where
+  Open : Step
+  Admit : ℕ → Input → Step
+  Start : Step
+  Finish : ℕ → ℕ → ℕ → Step
+  Take : ℕ → Step
+  End : ℕ → Step
+  Drop : ℕ → Cause → Step
+
+abbrev pub start_entry : Option Started → Entry
+start_entry None = entry.Start 0 0
+start_entry (Some q) = entry.Start q.session q.number
+
+-- the entry of a step that is not refused
+abbrev pub entry_of : List Entry → Step → Entry
+entry_of past Open = entry.Open (length (sessions_of past) + 1)
+entry_of past (Admit s input) = entry.Admit s (admitted_of s past + 1) InBand input
+entry_of past Start = start_entry (named_of (starting_of past))
+entry_of past (Finish s k moment) = entry.Done s k (reply_of (running_of past)) (max moment (last_moment_of past))
+entry_of past (Take s) = entry.Take s (untaken_of s past)
+entry_of past (End s) = entry.Eof s
+entry_of past (Drop s cause) = entry.Drop s cause
+
+-- after the entry, the entries and the open sessions would pass the limit
+abbrev pub full_refusal : ℕ → List Entry → Entry → Option StepFault
+full_refusal entries past e = cond (nat_le (length past + 1 + open_count_of (e ∷ past)) entries) None (Some JournalFull)
+
+-- the session was never opened, or it is closed, or what others say
+abbrev pub session_refusal : ℕ → List Entry → Option StepFault → Option StepFault
+session_refusal s past others = cond (was_opened s past) (cond (is_dropped s past) (Some Closed) others) (Some NoSession)
+
+abbrev pub is_running : ℕ → ℕ → List Entry → Bool
+is_running s k past = names s k (named_of (running_of past)) where
+  names : ℕ → ℕ → Option Started → Bool
+  names s k None = false
+  names s k (Some q) = q.session == s && q.number == k
+
+-- the cause does not hold
+abbrev pub cause_refusal : Cause → Bool → Option StepFault
+cause_refusal cause.Ended drained = cond drained None (Some NotDrained)
+cause_refusal cause.Stopped drained = Some WrongCause
+cause_refusal cause.Overrun drained = Some WrongCause
+cause_refusal cause.ReadFault drained = None
+cause_refusal cause.WriteFault drained = None
+cause_refusal cause.Limit drained = None
+cause_refusal cause.Memory drained = None
+cause_refusal cause.Halted drained = None
+
+-- the first refusal whose condition holds
+abbrev pub refusal_of : ℕ → List Entry → Step → Option StepFault
+refusal_of entries past Open =
+    cond (nat_le MOST_SESSIONS (length (sessions_of past))) (Some SessionsFull) (full_refusal entries past (entry_of past Open))
+refusal_of entries past (Admit s input) = session_refusal s past
+    (cond (is_ended s past) (Some InputEnded)
+    (cond (nat_le (bound_of (mode_of s past)) (in_flight_of s past)) (Some Busy)
+    (full_refusal entries past (entry_of past (Admit s input)))))
+refusal_of entries past Start =
+    cond (is_some (running_of past) || is_none (starting_of past)) (Some Nothing) (full_refusal entries past (entry_of past Start))
+refusal_of entries past (Finish s k moment) =
+    cond (is_running s k past) (full_refusal entries past (entry_of past (Finish s k moment))) (Some NotRunning)
+refusal_of entries past (Take s) = session_refusal s past
+    (cond (length (untaken_of s past) == 0) (Some Nothing) (full_refusal entries past (entry_of past (Take s))))
+refusal_of entries past (End s) = session_refusal s past
+    (cond (is_ended s past) (Some InputEnded) (full_refusal entries past (entry_of past (End s))))
+refusal_of entries past (Drop s cause) = session_refusal s past (cause_refusal cause (is_drained s past))
+
+-- what a monitor shows
+pub record Shown : Type 0 where
+  pub limits : Limits
+  pub journal : List Entry
+
+-- the journal after a step
+abbrev pub continued : Option StepFault → List Entry → Entry → List Entry
+continued None journal e = journal ++ e ∷ []
+continued (Some fault) journal e = journal
+
+-- the step was answered by its first refusal, or its one entry was added
+pub record Next (old : Shown) (step : Step) (fault : Option StepFault) (new : Shown) : Type 0 where
+  pub answer : fault ≡ refusal_of old.limits.entries (past_of old.journal) step
+  pub journal : new.journal ≡ continued fault old.journal (entry_of (past_of old.journal) step)
+  pub limits : new.limits ≡ old.limits

@@ -1,0 +1,86 @@
+-- Which entry may come next (this project's own rule).
+use Rattle.std.specs.Prelude.{◌≡◌, ℕ, ◌+◌, ◌<◌, ◌≤◌, true, false, List, length, Option, Some, None, IsTrue}
+use Rattle.qm_json.specs.declared.value.Json.{Json}
+use Rattle.qm_json.specs.declared.value.Json.TheVariants.{Null}
+use Rattle.qm_caps.specs.Modes.{bound_of}
+use Rattle.qm_caps.specs.declared.mode.Lane.{Lane}
+use Rattle.qm_caps.specs.declared.mode.Lane.TheVariants.{InBand}
+use Rattle.qm_core.specs.Drained.{is_drained}
+use Rattle.qm_core.specs.Inputs.{IsCleanInput}
+use Rattle.qm_core.specs.Replies.{reply_to}
+use Rattle.qm_core.specs.Standing.{sessions_of, is_open, is_ended, admitted_of, in_flight_of, mode_of, running_of, starting_of, named_of, last_moment_of}
+use Rattle.qm_core.specs.Transcript.{untaken_of}
+use Rattle.qm_core.specs.declared.TheConstants.{MOST_SESSIONS}
+use Rattle.qm_core.specs.declared.entries.Cause.{Cause}
+use Rattle.qm_core.specs.declared.entries.Cause.TheVariants.{Ended, ReadFault, WriteFault, Overrun, Stopped, Limit, Memory, Halted}
+use Rattle.qm_core.specs.declared.entries.Entry.{Entry}
+use Rattle.qm_core.specs.declared.entries.Entry.TheVariants.{Open, Admit, Start, Done, Take, Eof, Drop}
+use Rattle.qm_core.specs.declared.inputs.Input.{Input}
+use Rattle.qm_core.specs.declared.requests.Request.{Request}
+
+-- the next session is opened
+pub record MayOpen (past : List Entry) (s : ℕ) : Type 0 where
+  pub next : s ≡ length (sessions_of past) + 1
+  pub few : s ≤ MOST_SESSIONS
+
+-- the next request of an open session is admitted, in band, below the bound of its mode
+pub record MayAdmit (past : List Entry) (s k : ℕ) (lane : Lane) (input : Input) : Type 0 where
+  pub is_open : is_open s past ≡ true
+  pub more : is_ended s past ≡ false
+  pub next : k ≡ admitted_of s past + 1
+  pub in_band : lane ≡ InBand
+  pub below : in_flight_of s past < bound_of (mode_of s past)
+  pub clean : IsCleanInput input
+
+-- nothing runs, and the request is the least that waits of the session whose turn it is
+pub record MayStart (past : List Entry) (s k : ℕ) : Type 0 where
+  pub idle : running_of past ≡ None
+  pub turn : named_of (starting_of past) ≡ Some record { session = s; number = k }
+
+-- the reply to what runs; without it there is none to give
+abbrev pub reply_of : Option Request → Json
+reply_of None = Null
+reply_of (Some request) = reply_to request
+
+-- the running request is answered
+pub record MayFinish (past : List Entry) (s k : ℕ) (reply : Json) (moment : ℕ) : Type 0 where
+  pub running : named_of (running_of past) ≡ Some record { session = s; number = k }
+  pub answer : reply ≡ reply_of (running_of past)
+  pub later : last_moment_of past ≤ moment
+
+-- all lines of an open session that are untaken are handed out
+pub record MayTake (past : List Entry) (s : ℕ) (lines : List (List ℕ)) : Type 0 where
+  pub is_open : is_open s past ≡ true
+  pub some : 0 < length lines
+  pub all : lines ≡ untaken_of s past
+
+-- the input of an open session ends once
+pub record MayEnd (past : List Entry) (s : ℕ) : Type 0 where
+  pub is_open : is_open s past ≡ true
+  pub more : is_ended s past ≡ false
+
+-- the cause of a drop holds; no command stops the monitor yet, and no session overruns
+abbrev pub Holds : List Entry → ℕ → Cause → Type 0
+Holds past s Ended = is_drained s past ≡ true
+Holds past s Stopped = ⊥
+Holds past s Overrun = ⊥
+Holds past s ReadFault = Unit {0}
+Holds past s WriteFault = Unit {0}
+Holds past s Limit = Unit {0}
+Holds past s Memory = Unit {0}
+Holds past s Halted = Unit {0}
+
+-- an open session is closed for a cause that holds
+pub record MayDrop (past : List Entry) (s : ℕ) (cause : Cause) : Type 0 where
+  pub is_open : is_open s past ≡ true
+  pub holds : Holds past s cause
+
+-- the entry may come after the past
+abbrev pub MayFollow : List Entry → Entry → Type 0
+MayFollow past (Open s) = MayOpen past s
+MayFollow past (Admit s k lane input) = MayAdmit past s k lane input
+MayFollow past (Start s k) = MayStart past s k
+MayFollow past (Done s k reply moment) = MayFinish past s k reply moment
+MayFollow past (Take s lines) = MayTake past s lines
+MayFollow past (Eof s) = MayEnd past s
+MayFollow past (Drop s cause) = MayDrop past s cause

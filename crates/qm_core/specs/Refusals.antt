@@ -1,0 +1,62 @@
+-- Error replies: their classes (QMP specification, "Error") and descriptions (this project's own rule).
+use Rattle.std.specs.Prelude.{ℕ, List, ◌++◌, codes}
+use Rattle.std.specs.Fmt.{decimal}
+use Rattle.qm_core.specs.declared.inputs.BadInput.{BadInput}
+use Rattle.qm_core.specs.declared.inputs.BadInput.TheVariants as bad
+use Rattle.qm_core.specs.declared.inputs.FrameWord.{FrameWord}
+use Rattle.qm_core.specs.declared.inputs.FrameWord.TheVariants.{LexError, Unbalanced, TooDeep, TooLong}
+use Rattle.qm_core.specs.declared.inputs.JsonWord.{JsonWord}
+use Rattle.qm_core.specs.declared.inputs.JsonWord.TheVariants.{Expected, Duplicate, BadEscape, BadUtf8}
+use Rattle.qm_core.specs.declared.verdicts.Class.{Class}
+use Rattle.qm_core.specs.declared.verdicts.Class.TheVariants.{GenericError, CommandNotFound}
+use Rattle.qm_core.specs.declared.verdicts.Refusal.{Refusal}
+use Rattle.qm_core.specs.declared.verdicts.Refusal.TheVariants.{BadInput as Malformed, NotAnObject, UnexpectedMember, TwoVerbs, NoVerb, VerbNoString, ArgumentsNoObject, NegotiationExpected, NegotiationComplete, UnknownCommand, UnexpectedArgument}
+
+-- what a message is called that is no message or no value
+abbrev pub frame_desc_of : FrameWord → List ℕ
+frame_desc_of LexError = codes "Invalid JSON: lexical error"
+frame_desc_of Unbalanced = codes "Invalid JSON: unbalanced bracket"
+frame_desc_of TooDeep = codes "Invalid JSON: nesting is deeper than 128"
+frame_desc_of TooLong = codes "Invalid JSON: message is longer than 1048576 bytes"
+
+abbrev pub json_desc_of : JsonWord → List ℕ
+json_desc_of (Expected place) = codes "Invalid JSON: syntax error at byte " ++ decimal place
+json_desc_of (Duplicate place) = codes "Invalid JSON: duplicate member at byte " ++ decimal place
+json_desc_of (BadEscape place) = codes "Invalid JSON: bad escape at byte " ++ decimal place
+json_desc_of (BadUtf8 place) = codes "Invalid JSON: bad UTF-8 at byte " ++ decimal place
+
+abbrev pub bad_desc_of : BadInput → List ℕ
+bad_desc_of (bad.Frame word) = frame_desc_of word
+bad_desc_of (bad.Json word) = json_desc_of word
+
+-- the description of a refusal
+abbrev pub desc_of : Refusal → List ℕ
+desc_of (Malformed what) = bad_desc_of what
+desc_of NotAnObject = codes "QMP input must be a JSON object"
+desc_of (UnexpectedMember name) = codes "QMP input member '" ++ name ++ codes "' is unexpected"
+desc_of TwoVerbs = codes "QMP input has both 'execute' and 'exec-oob'"
+desc_of NoVerb = codes "QMP input lacks member 'execute'"
+desc_of (VerbNoString name) = codes "QMP input member '" ++ name ++ codes "' must be a string"
+desc_of ArgumentsNoObject = codes "QMP input member 'arguments' must be an object"
+desc_of NegotiationExpected = codes "Expecting capabilities negotiation with 'qmp_capabilities'"
+desc_of NegotiationComplete = codes "Capabilities negotiation is already complete, command ignored"
+desc_of (UnknownCommand name) = codes "The command " ++ name ++ codes " has not been found"
+desc_of (UnexpectedArgument name) = codes "Parameter '" ++ name ++ codes "' is unexpected"
+
+-- the class of a refusal
+abbrev pub class_of : Refusal → Class
+class_of NegotiationExpected = CommandNotFound
+class_of NegotiationComplete = CommandNotFound
+class_of (UnknownCommand name) = CommandNotFound
+class_of (Malformed what) = GenericError
+class_of NotAnObject = GenericError
+class_of (UnexpectedMember name) = GenericError
+class_of TwoVerbs = GenericError
+class_of NoVerb = GenericError
+class_of (VerbNoString name) = GenericError
+class_of ArgumentsNoObject = GenericError
+class_of (UnexpectedArgument name) = GenericError
+
+abbrev pub class_name_of : Class → List ℕ
+class_name_of GenericError = codes "GenericError"
+class_name_of CommandNotFound = codes "CommandNotFound"

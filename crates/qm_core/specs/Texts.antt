@@ -1,0 +1,83 @@
+-- The text of a journal (this project's own rule). Lines end with LF.
+use Rattle.std.specs.Prelude.{ℕ, ◌+◌, List, [], ◌∷◌, ◌++◌, codes, length}
+use Rattle.std.specs.Fmt.{decimal}
+use Rattle.std.specs.List.{flat_map}
+use Rattle.qm_json.specs.Printing.{printed}
+use Rattle.qm_caps.specs.declared.mode.Lane.{Lane}
+use Rattle.qm_caps.specs.declared.mode.Lane.TheVariants.{InBand, Oob}
+use Rattle.qm_core.specs.declared.entries.Cause.{Cause}
+use Rattle.qm_core.specs.declared.entries.Cause.TheVariants as cause
+use Rattle.qm_core.specs.declared.entries.Entry.{Entry}
+use Rattle.qm_core.specs.declared.entries.Entry.TheVariants.{Open, Admit, Start, Done, Take, Eof, Drop}
+use Rattle.qm_core.specs.declared.inputs.BadInput.{BadInput}
+use Rattle.qm_core.specs.declared.inputs.BadInput.TheVariants as bad
+use Rattle.qm_core.specs.declared.inputs.FrameWord.{FrameWord}
+use Rattle.qm_core.specs.declared.inputs.FrameWord.TheVariants.{LexError, Unbalanced, TooDeep, TooLong}
+use Rattle.qm_core.specs.declared.inputs.Input.{Input}
+use Rattle.qm_core.specs.declared.inputs.Input.TheVariants as input
+use Rattle.qm_core.specs.declared.inputs.JsonWord.{JsonWord}
+use Rattle.qm_core.specs.declared.inputs.JsonWord.TheVariants.{Expected, Duplicate, BadEscape, BadUtf8}
+
+abbrev pub frame_word_of : FrameWord → List ℕ
+frame_word_of LexError = codes "lex-error"
+frame_word_of Unbalanced = codes "unbalanced"
+frame_word_of TooDeep = codes "too-deep"
+frame_word_of TooLong = codes "too-long"
+
+abbrev pub json_word_of : JsonWord → List ℕ
+json_word_of (Expected place) = codes "expected " ++ decimal place
+json_word_of (Duplicate place) = codes "duplicate " ++ decimal place
+json_word_of (BadEscape place) = codes "bad-escape " ++ decimal place
+json_word_of (BadUtf8 place) = codes "bad-utf8 " ++ decimal place
+
+-- what came in place of a value
+abbrev pub bad_word_of : BadInput → List ℕ
+bad_word_of (bad.Frame word) = frame_word_of word
+bad_word_of (bad.Json word) = json_word_of word
+
+abbrev pub lane_word_of : Lane → List ℕ
+lane_word_of InBand = codes "in"
+lane_word_of Oob = codes "oob"
+
+abbrev pub input_text_of : Input → List ℕ
+input_text_of (input.Doc value) = printed value
+input_text_of (input.Bad what) = codes "bad " ++ bad_word_of what
+
+abbrev pub cause_word_of : Cause → List ℕ
+cause_word_of cause.Ended = codes "ended"
+cause_word_of cause.ReadFault = codes "read-fault"
+cause_word_of cause.WriteFault = codes "write-fault"
+cause_word_of cause.Overrun = codes "overrun"
+cause_word_of cause.Stopped = codes "stopped"
+cause_word_of cause.Limit = codes "limit"
+cause_word_of cause.Memory = codes "memory"
+cause_word_of cause.Halted = codes "halted"
+
+-- the two numbers of a request
+abbrev pub request_text_of : ℕ → ℕ → List ℕ
+request_text_of s k = decimal s ++ codes " " ++ decimal k
+
+abbrev pub taken_text_of : List ℕ → List ℕ
+taken_text_of line = codes "> " ++ line ++ codes "\n"
+
+-- what an entry says after its number; the lines that were handed out follow it
+abbrev pub event_text_of : Entry → List ℕ
+event_text_of (Open s) = codes " open " ++ decimal s ++ codes "\n"
+event_text_of (Admit s k lane input) = codes " admit " ++ request_text_of s k ++ codes " " ++ lane_word_of lane ++ codes " " ++ input_text_of input ++ codes "\n"
+event_text_of (Start s k) = codes " start " ++ request_text_of s k ++ codes "\n"
+event_text_of (Done s k reply moment) = codes " done " ++ request_text_of s k ++ codes " @" ++ decimal moment ++ codes " " ++ printed reply ++ codes "\n"
+event_text_of (Take s lines) = codes " take " ++ decimal s ++ codes " " ++ decimal (length lines) ++ codes "\n" ++ flat_map taken_text_of lines
+event_text_of (Eof s) = codes " eof " ++ decimal s ++ codes "\n"
+event_text_of (Drop s cause) = codes " drop " ++ decimal s ++ codes " " ++ cause_word_of cause ++ codes "\n"
+
+-- the text of the entry of this number
+abbrev pub entry_text_of : ℕ → Entry → List ℕ
+entry_text_of n e = decimal n ++ event_text_of e
+
+abbrev pub text_from : ℕ → List Entry → List ℕ
+text_from n [] = []
+text_from n (e ∷ journal) = entry_text_of n e ++ text_from (n + 1) journal
+
+-- the text of a journal, its entries numbered from 1
+abbrev pub text_of : List Entry → List ℕ
+text_of journal = text_from 1 journal

@@ -1,0 +1,223 @@
+ghost use Rattle.std.specs.Prelude.{◌≡◌, ◌&&◌, not, find, [], ◌∷◌, codes, option_map, unwrap_or, IfOk};
+ghost use Rattle.std.specs.Option.{option_and_then, option_copied};
+ghost use Rattle.qm_json.specs.Members.{has_name, member_of, members_of};
+ghost use Rattle.qm_core.specs.Inputs.{command_name_of, is_object, is_verb, string_of};
+ghost use Rattle.qm_core.specs.Verdicts.{arguments_no_object, arguments_of, first_of, is_expected, is_negotiating, known_command as command_of_name, malformed, may_be_out_of_band, misplaced, request_verdict_of, run_or, unexpected_argument, unexpected_member, verb_no_string, verdict_of};
+
+use crate::inputs::Input;
+use crate::verdicts::{Command, Refusal, Verdict};
+use qm_base::{NoMemory, Text};
+use qm_caps::Mode;
+use qm_json::{Json, Member, has_member};
+use std::alloc::Global;
+
+/// The command of a name, where there is one.
+pub(crate) fn known_command(name: &[u8]) -> Option<Command>
+    ensures { result ≡ command_of_name name.now }
+{
+    if name == b"qmp_capabilities".as_slice() {
+        Some(Command::Capabilities)
+    } else if name == b"query-version".as_slice() {
+        Some(Command::Version)
+    } else {
+        None
+    }
+}
+
+fn may_be_out_of_band(mode: Mode) -> bool
+    ensures { result ≡ may_be_out_of_band mode }
+{
+    match mode {
+        Mode::CommandOob => true,
+        Mode::Negotiating | Mode::Command => false,
+    }
+}
+
+fn is_negotiating(mode: Mode) -> bool
+    ensures { result ≡ is_negotiating mode }
+{
+    match mode {
+        Mode::Negotiating => true,
+        Mode::Command | Mode::CommandOob => false,
+    }
+}
+
+fn is_expected(mode: Mode, member: &Member) -> bool
+    ensures { result ≡ is_expected mode member.now }
+{
+    let name = member.name.as_slice();
+    name == b"execute".as_slice()
+        || name == b"arguments".as_slice()
+        || name == b"id".as_slice()
+        || (may_be_out_of_band(mode) && name == b"exec-oob".as_slice())
+}
+
+fn is_verb(member: &Member) -> bool
+    ensures { result ≡ is_verb member.now }
+{
+    let name = member.name.as_slice();
+    name == b"execute".as_slice() || name == b"exec-oob".as_slice()
+}
+
+fn unexpected(mode: Mode, members: &[Member]) -> Option<&Member>
+    ensures { option_copied result ≡ find (λ m. not (is_expected mode m)) members.now }
+{
+    members.iter().find(|member| !is_expected(mode, member))
+}
+
+fn verb(members: &[Member]) -> Option<&Member>
+    ensures { option_copied result ≡ find is_verb members.now }
+{
+    members.iter().find(|member| is_verb(member))
+}
+
+fn has_two_verbs(members: &[Member]) -> bool
+    ensures { result ≡ (has_name members.now (codes "execute") && has_name members.now (codes "exec-oob")) }
+{
+    has_member(members, b"execute") && has_member(members, b"exec-oob")
+}
+
+fn string(value: &Json) -> Option<&[u8]>
+    ensures { option_copied result ≡ string_of value.now }
+{
+    match value {
+        Json::Str(text) => Some(text.as_slice()),
+        _ => None,
+    }
+}
+
+fn is_object(value: &Json) -> bool
+    ensures { result ≡ is_object value.now }
+{
+    match value {
+        Json::Obj(_) => true,
+        _ => false,
+    }
+}
+
+/// The members of an object; any other value has none.
+pub(crate) fn members(value: &Json) -> &[Member]
+    ensures { result.now ≡ members_of value.now }
+{
+    match value {
+        Json::Obj(members) => members.as_slice(),
+        _ => &[],
+    }
+}
+
+fn arguments(value: &Json) -> &[Member]
+    ensures { result.now ≡ arguments_of value.now }
+{
+    match value.member(b"arguments") {
+        Some(arguments) => members(arguments),
+        None => &[],
+    }
+}
+
+/// The command that an object names, where it names one.
+pub(crate) fn command_name(value: &Json) -> Option<&[u8]>
+    ensures { option_copied result ≡ command_name_of value.now }
+{
+    match verb(members(value)) {
+        Some(verb) => string(&verb.value),
+        None => None,
+    }
+}
+
+fn malformed_verb(alloc: Global, verb: &Member, value: &Json) -> Result<Option<Refusal>, NoMemory>
+    ensures { IfOk result (λ refusal. refusal ≡ first_of (verb_no_string verb.now
+        ∷ option_and_then arguments_no_object (member_of value.now (codes "arguments")) ∷ [])) }
+{
+    if string(&verb.value).is_none() {
+        let name = verb.name.copy(alloc)?;
+        return Ok(Some(Refusal::VerbNoString(name)));
+    }
+    match value.member(b"arguments") {
+        Some(arguments) if !is_object(arguments) => Ok(Some(Refusal::ArgumentsNoObject)),
+        _ => Ok(None),
+    }
+}
+
+fn malformed(alloc: Global, mode: Mode, value: &Json) -> Result<Option<Refusal>, NoMemory>
+    ensures { IfOk result (λ refusal. refusal ≡ malformed mode value.now) }
+{
+    if !is_object(value) {
+        return Ok(Some(Refusal::NotAnObject));
+    }
+    let members = members(value);
+    if let Some(member) = unexpected(mode, members) {
+        let name = member.name.copy(alloc)?;
+        return Ok(Some(Refusal::UnexpectedMember(name)));
+    }
+    if has_two_verbs(members) {
+        return Ok(Some(Refusal::TwoVerbs));
+    }
+    match verb(members) {
+        Some(verb) => malformed_verb(alloc, verb, value),
+        None => Ok(Some(Refusal::NoVerb)),
+    }
+}
+
+fn misplaced(
+    alloc: Global,
+    mode: Mode,
+    name: &[u8],
+    arguments: &[Member],
+) -> Result<Option<Refusal>, NoMemory>
+    ensures { IfOk result (λ refusal. refusal ≡ misplaced mode name.now arguments.now) }
+{
+    let negotiates = name == b"qmp_capabilities".as_slice();
+    if is_negotiating(mode) && !negotiates {
+        return Ok(Some(Refusal::NegotiationExpected));
+    }
+    if !is_negotiating(mode) && negotiates {
+        return Ok(Some(Refusal::NegotiationComplete));
+    }
+    if known_command(name).is_none() {
+        return Ok(Some(Refusal::UnknownCommand(Text::of(alloc, name)?)));
+    }
+    match arguments.first() {
+        Some(argument) => Ok(Some(Refusal::UnexpectedArgument(argument.name.copy(alloc)?))),
+        None => Ok(None),
+    }
+}
+
+fn command_verdict(
+    alloc: Global,
+    mode: Mode,
+    name: &[u8],
+    arguments: &[Member],
+) -> Result<Verdict, NoMemory>
+    ensures { IfOk result (λ verdict. verdict ≡ run_or (misplaced mode name.now arguments.now) (command_of_name name.now)) }
+{
+    if let Some(refusal) = misplaced(alloc, mode, name, arguments)? {
+        return Ok(Verdict::Refused(refusal));
+    }
+    match known_command(name) {
+        Some(command) => Ok(Verdict::Run(command)),
+        None => Ok(Verdict::Refused(Refusal::NoVerb)),
+    }
+}
+
+fn request_verdict(alloc: Global, mode: Mode, value: &Json) -> Result<Verdict, NoMemory>
+    ensures { IfOk result (λ verdict. verdict ≡ request_verdict_of mode value.now) }
+{
+    if let Some(refusal) = malformed(alloc, mode, value)? {
+        return Ok(Verdict::Refused(refusal));
+    }
+    match command_name(value) {
+        Some(name) => command_verdict(alloc, mode, name, arguments(value)),
+        None => command_verdict(alloc, mode, &[], arguments(value)),
+    }
+}
+
+/// The verdict on an input that was admitted in a mode (QMP specification, "Issuing Commands" and
+/// "Capabilities Negotiation"): the first check that it fails, or the command that takes effect.
+pub(crate) fn verdict(alloc: Global, mode: Mode, input: &Input) -> Result<Verdict, NoMemory>
+    ensures { IfOk result (λ verdict. verdict ≡ verdict_of mode input.now) }
+{
+    match input {
+        Input::Doc(value) => request_verdict(alloc, mode, value.get()),
+        Input::Bad(bad) => Ok(Verdict::Refused(Refusal::BadInput(*bad))),
+    }
+}

@@ -1,0 +1,56 @@
+use crate::inputs::BadInput;
+use qm_base::Text;
+
+/// The class of an error reply (QMP specification, "Error").
+#[derive(Clone, Copy, Debug, PartialEq, Eq)]
+pub enum Class {
+    /// Any other error.
+    GenericError,
+    /// The command is not known, or not in this mode.
+    CommandNotFound,
+}
+
+/// A command that the server knows.
+#[derive(Clone, Copy, Debug, PartialEq, Eq)]
+pub enum Command {
+    /// `qmp_capabilities` (QMP specification, "Capabilities Negotiation").
+    Capabilities,
+    /// `query-version`.
+    Version,
+}
+
+/// Why a request is answered by an error. Names are those of the request.
+#[derive(Drop)]
+pub enum Refusal {
+    /// There is no value.
+    BadInput(BadInput),
+    /// The value is no object.
+    NotAnObject,
+    /// The object has a member that no request has.
+    UnexpectedMember(Text),
+    /// The object has both `execute` and `exec-oob`.
+    TwoVerbs,
+    /// The object names no command.
+    NoVerb,
+    /// The member that names the command is no string.
+    VerbNoString(Text),
+    /// The arguments are no object.
+    ArgumentsNoObject,
+    /// Another command than `qmp_capabilities` before negotiation.
+    NegotiationExpected,
+    /// `qmp_capabilities` after negotiation.
+    NegotiationComplete,
+    /// There is no such command.
+    UnknownCommand(Text),
+    /// The command has no such argument.
+    UnexpectedArgument(Text),
+}
+
+/// What is made of a request before it takes effect.
+#[derive(Drop)]
+pub enum Verdict {
+    /// It is answered by an error.
+    Refused(Refusal),
+    /// The command takes effect.
+    Run(Command),
+}

@@ -1,0 +1,8 @@
+mod FramingLemmas
+pub mod Growth
+mod Levels
+mod Opens
+mod PieceLemmas
+pub mod Positions
+mod Rows
+mod Texts

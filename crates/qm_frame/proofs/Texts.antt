@@ -1,0 +1,67 @@
+-- What one more byte of a message does, as the framing has it.
+use Rattle.std.proofs.Common.{◌≡◌, ℕ, ◌<◌, Bool, true, false, cond, List, [], ◌∷◌, ◌++◌, length, Ok, Err, refl, arith, ◌⊎◌, inl, inr}
+use Rattle.std.proofs.lemmas.Bool.Decides.{nat_tests}
+use Rattle.qm_base.specs.Search.{Piece, Final, after_front}
+use Rattle.qm_frame.specs.declared.step.FrameFault.{FrameFault}
+use Rattle.qm_frame.specs.declared.step.TheConstants.{MAX_LENGTH}
+use Rattle.qm_frame.specs.declared.judging.Judged.{Judged}
+use Rattle.qm_frame.specs.declared.judging.Judged.TheVariants.{Taken, Ends, Wrong}
+use Rattle.qm_frame.specs.declared.judging.State.{State}
+use Rattle.qm_frame.specs.Bytes.{is_opener, is_reset}
+use Rattle.qm_frame.specs.Messages.{is_open}
+use Rattle.qm_frame.specs.Framing.{Between, Inside, Skipping}
+use Rattle.qm_frame.specs.States.{state_of, judged, IsWithin}
+use Rattle.qm_frame.specs.Steps.{nothing, step}
+use Rattle.qm_frame.proofs.Opens.{is_open-within, Judges, judged-judges}
+
+-- text is what a framing holds, and now the same as contracts see it
+pub record IsTaken (text now : List ℕ) (x : ℕ) (s : State) : Type 0 where
+  pub more : is_open (text ++ x ∷ []) ≡ true
+  pub state : s ≡ state_of (text ++ x ∷ [])
+  pub room : length text < MAX_LENGTH
+  pub step : step (Inside now) x ≡ record { answers = []; rest = Inside (text ++ x ∷ []) }
+
+pub record IsEnded (text now : List ℕ) (x : ℕ) : Type 0 where
+  pub shut : is_open (text ++ x ∷ []) ≡ false
+  pub room : length text < MAX_LENGTH
+  pub step : step (Inside now) x ≡ record { answers = Ok (text ++ x ∷ []) ∷ []; rest = Between }
+
+-- what is known of a text while it is open
+abbrev Knows : List ℕ → State → Type 0
+Knows text s = is_open text ≡ true → s ≡ state_of text
+
+pub within_of : (text now : List ℕ) (s : State) → text ≡ now → is_open now ≡ true → Knows text s → IsWithin s
+within_of text now s e o k = let h : is_open text ≡ true = rw e o in rw (k h) (is_open-within text h)
+
+judges_of : (text now : List ℕ) (s : State) (x : ℕ) (j : Judged) → text ≡ now → is_open now ≡ true → Knows text s → j ≡ judged s x → Judges j text x
+judges_of text now s x j e o k h = let p : is_open text ≡ true = rw e o in rw (h, k p) (judged-judges text x p)
+
+pub taken_of : (text now : List ℕ) (s : State) (x : ℕ) (next : State) → text ≡ now → is_open now ≡ true → Knows text s → Taken next ≡ judged s x → IsTaken text now x next
+taken_of text now s x next e o k j =
+    let h : Judges (Taken next) text x = judges_of text now s x (Taken next) e o k j in
+    record { more = h.0; state = h.1; room = h.2; step = rw (← e, h.0) refl }
+
+pub ended_of : (text now : List ℕ) (s : State) (x : ℕ) → text ≡ now → is_open now ≡ true → Knows text s → Ends ≡ judged s x → IsEnded text now x
+ended_of text now s x e o k j =
+    let h : Judges Ends text x = judges_of text now s x Ends e o k j in
+    record { shut = h.0; room = h.2; step = rw (← e, h.0, h.1) refl }
+
+recovers : (b : Bool) (fault : FrameFault) (n : ℕ) → after_front (cond b (Piece (Err fault ∷ []) n) (Final (Err fault ∷ []) Skipping)) (λ (k : ℕ). nothing) ≡ record { answers = Err fault ∷ []; rest = cond b Between Skipping }
+recovers true fault n = refl
+recovers false fault n = refl
+
+pub wrong_of : (text now : List ℕ) (s : State) (x : ℕ) (fault : FrameFault) → text ≡ now → is_open now ≡ true → Knows text s → Wrong fault ≡ judged s x → step (Inside now) x ≡ record { answers = Err fault ∷ []; rest = cond (is_reset x) Between Skipping }
+wrong_of text now s x fault e o k j =
+    let h : Judges (Wrong fault) text x = judges_of text now s x (Wrong fault) e o k j in
+    rw (← e, h.0, h.1, h.2) (recovers (is_reset x) fault (length text))
+
+pub empty_shut : is_open [] ≡ false
+unfolding is_open
+empty_shut = refl
+
+bracket : (x : ℕ) → is_opener x ≡ true → (x ≡ 123) ⊎ (x ≡ 91)
+bracket x e = grind (arith, nat_tests, e)
+
+pub opener_open : (x : ℕ) → is_opener x ≡ true → is_open (x ∷ []) ≡ true
+unfolding is_open
+opener_open x e = elim (bracket x e) as (λ b. is_open (x ∷ []) ≡ true) [ inl h ↦ rw h refl | inr h ↦ rw h refl ]

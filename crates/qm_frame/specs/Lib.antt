@@ -1,0 +1,9 @@
+pub mod Bytes
+pub mod Framed
+pub mod Framing
+pub mod Messages
+pub mod Moves
+pub mod Pieces
+pub mod Splits
+pub mod States
+pub mod Steps

@@ -1,0 +1,44 @@
+ghost use Rattle.std.specs.Prelude.{◌≡◌};
+ghost use Rattle.qm_frame.specs.States.{judged, IsWithin};
+
+use crate::piece::{LastPiece, depth_after, is_broken, next};
+use crate::step::{FrameFault, MAX_DEPTH, MAX_LENGTH};
+
+/// What is known of an open text.
+#[derive(Clone, Copy)]
+pub struct State {
+    pub last: LastPiece,
+    pub depth: usize,
+    pub length: usize,
+}
+
+/// What one more byte makes of an open text.
+pub enum Judged {
+    Taken(State),
+    Ends,
+    Wrong(FrameFault),
+}
+
+/// What one more byte makes of an open text of which this is known.
+pub fn judge(state: State, byte: u8) -> Judged
+    requires { IsWithin state }
+    ensures { result ≡ judged state byte }
+{
+    let last = next(state.last, byte);
+    let depth = depth_after(state.last, state.depth, byte);
+    if state.length == MAX_LENGTH {
+        Judged::Wrong(FrameFault::TooLong)
+    } else if is_broken(last) {
+        Judged::Wrong(FrameFault::LexError)
+    } else if depth > MAX_DEPTH {
+        Judged::Wrong(FrameFault::TooDeep)
+    } else if depth == 0 {
+        Judged::Ends
+    } else {
+        Judged::Taken(State {
+            last,
+            depth,
+            length: state.length + 1,
+        })
+    }
+}

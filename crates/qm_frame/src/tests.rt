@@ -1,0 +1,110 @@
+//! Streams of bytes, the frames that they have, and where reading goes on after a fault.
+
+use crate::{FrameFault, Framer, MAX_DEPTH, MAX_LENGTH, Step};
+use std::process::Abort;
+use std::test::Fail;
+
+fn name_of(fault: FrameFault) -> &'static str {
+    match fault {
+        FrameFault::LexError => "lex error",
+        FrameFault::Unbalanced => "unbalanced",
+        FrameFault::TooDeep => "too deep",
+        FrameFault::TooLong => "too long",
+    }
+}
+
+/// A line for each frame of the bytes: the message, or the name of the fault.
+fn frames(rt: &impl AllocGlobal, bytes: &[u8]) -> Result<Vec<u8>, Fail> {
+    let mut framer = Framer::new(rt.alloc())?;
+    let mut lines = Vec::new(rt.alloc());
+    for &byte in bytes {
+        match framer.push(byte) {
+            Step::More => {}
+            Step::Frame => {
+                lines.extend_from_slice(framer.frame())?;
+                lines.push(b'\n')?;
+            }
+            Step::Bad(fault) => {
+                lines.extend_from_slice(name_of(fault).as_bytes())?;
+                lines.push(b'\n')?;
+            }
+        }
+    }
+    Ok(lines)
+}
+
+#[test]
+fn streams_have_their_frames(rt: HostRuntime) -> Result<(), Fail> {
+    let cases: [(&[u8], &str); 18] = [
+        (b"", ""),
+        (b" \t\r\n", ""),
+        (b"{} [1]", "{}\n[1]\n"),
+        (b"}{}", "unbalanced\n{}\n"),
+        (b"\"x\n{}", "lex error\n{}\n"),
+        (b"{\xFE}{}", "lex error\nunbalanced\n{}\n"),
+        (b"{\"a\tb\"}\n{}", "lex error\n{}\n"),
+        (b"{\"a\\\n{}", "lex error\n{}\n"),
+        (b"[T]\n{}", "lex error\n{}\n"),
+        (b"{\"execute\":\"quit\"", ""),
+        (
+            b"{ \"exec\xFF{\"execute\":1}",
+            "lex error\n{\"execute\":1}\n",
+        ),
+        (b"[1E]", "[1E]\n"),
+        (b"[E]\n", "lex error\n"),
+        (b"[+1]\n", "lex error\n"),
+        (b"{'}\"'}", "{'}\"'}\n"),
+        (b"[\"\\\"]\"]", "[\"\\\"]\"]\n"),
+        (b"[}{]", "[}\n{]\n"),
+        (b"7 {}\n[]", "lex error\n[]\n"),
+    ];
+    for (bytes, lines) in cases {
+        assert_eq!(rt; frames(&rt, bytes)?.as_slice(), lines.as_bytes(), "{lines}");
+    }
+    Ok(())
+}
+
+fn answer_to_many(rt: &impl AllocGlobal, openers: usize, closers: usize) -> Result<Step, Fail> {
+    let mut framer = Framer::new(rt.alloc())?;
+    let mut last = Step::More;
+    for _ in 0..openers {
+        last = framer.push(b'[');
+    }
+    for _ in 0..closers {
+        last = framer.push(b']');
+    }
+    Ok(last)
+}
+
+#[test]
+fn nesting_has_a_limit(rt: HostRuntime) -> Result<(), Fail> {
+    assert_eq!(rt; MAX_DEPTH, 128);
+    assert_eq!(rt; answer_to_many(&rt, 128, 128)?, Step::Frame);
+    assert_eq!(rt;
+        answer_to_many(&rt, 129, 0)?,
+        Step::Bad(FrameFault::TooDeep)
+    );
+    Ok(())
+}
+
+/// The answer to the closer of an array with so many blanks, and the count of the message's bytes.
+fn answer_to_blanks(rt: &impl AllocGlobal, blanks: usize) -> Result<(Step, usize), Fail> {
+    let mut framer = Framer::new(rt.alloc())?;
+    framer.push(b'[');
+    for _ in 0..blanks {
+        framer.push(b' ');
+    }
+    let last = framer.push(b']');
+    Ok((last, framer.frame().len()))
+}
+
+#[test]
+fn length_has_a_limit(rt: HostRuntime) -> Result<(), Fail> {
+    assert_eq!(rt; MAX_LENGTH, 1_048_576);
+    assert_eq!(rt; answer_to_blanks(&rt, 1_048_574)?, (Step::Frame, 1_048_576));
+    assert_eq!(rt;
+        answer_to_blanks(&rt, 1_048_575)?,
+        (Step::Bad(FrameFault::TooLong), 0)
+    );
+    Ok(())
+}

@@ -1,0 +1,232 @@
+ghost use Rattle.std.specs.Prelude.{◌≡◌, ◌<◌, ◌≤◌, ◌^◌, length, position, IfSome, option_map, codes, Option, Some};
+ghost use Rattle.std.specs.Option.{option_copied, option_and_then};
+ghost use Rattle.qm_script.specs.Orders.{after_word as after_word_of, before_blank as before_blank_of, after_blank as after_blank_of, is_blank, is_end as is_end_of, is_id as is_id_of, is_request_of, is_plain as is_plain_of, session_number, session_after as session_after_of, long_order_of, text_order as text_order_of, drop_order as drop_order_of, order_of, fed_by as fed_by_of};
+ghost use Rattle.qm_script.specs.declared.orders.Order.TheVariants.{Admit, Finish, Take, Eof};
+ghost use Rattle.qm_base.specs.Numerals.{number_of};
+
+use qm_base::number;
+
+/// What a line of a script orders.
+#[derive(Clone, Copy, Debug, PartialEq, Eq)]
+pub enum Order {
+    /// `open`: opens a session.
+    Open,
+    /// `text S REST`: feeds REST and LF to a session.
+    Text(u32),
+    /// `admit S`: admits the next input of a session.
+    Admit(u32),
+    /// `start`: starts a request.
+    Start,
+    /// `finish M`: finishes the running request at a moment, in microseconds.
+    Finish(u64),
+    /// `take S`: hands out the lines of a session.
+    Take(u32),
+    /// `eof S`: ends the input of a session.
+    Eof(u32),
+    /// `drop S ended`: closes a session that is drained.
+    DropEnded(u32),
+}
+
+fn after_word<'a>(word: &[u8], line: &'a [u8]) -> Option<&'a [u8]>
+    ensures { option_copied result ≡ after_word_of word.now line.now }
+{
+    if line.starts_with(word) {
+        Some(&line[word.len()..])
+    } else {
+        None
+    }
+}
+
+fn session(text: &[u8]) -> Option<u32>
+    ensures { result ≡ session_number text.now }
+{
+    match number(text) {
+        Some(n) if n < 0x1_0000_0000 => Some(n as u32),
+        _ => None,
+    }
+}
+
+fn is_id(text: &[u8]) -> bool
+    ensures { result ≡ is_id_of text.now }
+{
+    match number(text) {
+        Some(n) => n < 0x8000_0000_0000_0000,
+        None => false,
+    }
+}
+
+fn blank_at(text: &[u8]) -> Option<usize>
+    ensures place { result ≡ position is_blank text.now }
+    ensures within { IfSome result (λ at. at < length text.now) }
+{
+    text.iter().position(|byte| *byte == b' ')
+}
+
+fn before_blank(text: &[u8]) -> &[u8]
+    ensures { result.now ≡ before_blank_of text.now }
+{
+    match blank_at(text) {
+        Some(at) => &text[..at],
+        None => text,
+    }
+}
+
+fn after_blank(text: &[u8]) -> &[u8]
+    ensures { result.now ≡ after_blank_of text.now }
+{
+    match blank_at(text) {
+        Some(at) => &text[at + 1..],
+        None => &[],
+    }
+}
+
+fn is_end(text: &[u8]) -> bool
+    ensures { result ≡ is_end_of text.now }
+{
+    if text == b"}".as_slice() {
+        return true;
+    }
+    match after_word(b",\"id\":", text) {
+        Some(rest) => rest.ends_with(b"}") && is_id(&rest[..rest.len() - 1]),
+        None => false,
+    }
+}
+
+fn is_request(front: &[u8], text: &[u8]) -> bool
+    ensures { result ≡ is_request_of front.now text.now }
+{
+    match after_word(front, text) {
+        Some(rest) => is_end(rest),
+        None => false,
+    }
+}
+
+fn is_plain(text: &[u8]) -> bool
+    ensures { result ≡ is_plain_of text.now }
+{
+    if is_request(b"{\"execute\":\"qmp_capabilities\"", text) {
+        return true;
+    }
+    is_request(b"{\"execute\":\"query-version\"", text)
+}
+
+fn text_order(text: &[u8]) -> Option<Order>
+    ensures { result ≡ text_order_of text.now }
+{
+    if is_plain(after_blank(text)) {
+        match session(before_blank(text)) {
+            Some(session) => Some(Order::Text(session)),
+            None => None,
+        }
+    } else {
+        None
+    }
+}
+
+fn drop_order(text: &[u8]) -> Option<Order>
+    ensures { result ≡ drop_order_of text.now }
+{
+    if after_blank(text) == b"ended".as_slice() {
+        match session(before_blank(text)) {
+            Some(session) => Some(Order::DropEnded(session)),
+            None => None,
+        }
+    } else {
+        None
+    }
+}
+
+fn session_after(word: &[u8], line: &[u8]) -> Option<u32>
+    ensures { result ≡ session_after_of word.now line.now }
+{
+    match after_word(word, line) {
+        Some(text) => session(text),
+        None => None,
+    }
+}
+
+fn text_line(line: &[u8]) -> Option<Order>
+    ensures { result ≡ option_and_then text_order_of (after_word_of (codes "text ") line.now) }
+{
+    match after_word(b"text ", line) {
+        Some(text) => text_order(text),
+        None => None,
+    }
+}
+
+fn finish_line(line: &[u8]) -> Option<Order>
+    ensures { result ≡ option_map Finish (option_and_then number_of (after_word_of (codes "finish ") line.now)) }
+{
+    match after_word(b"finish ", line) {
+        Some(text) => match number(text) {
+            Some(moment) => Some(Order::Finish(moment)),
+            None => None,
+        },
+        None => None,
+    }
+}
+
+fn drop_line(line: &[u8]) -> Option<Order>
+    ensures { result ≡ option_and_then drop_order_of (after_word_of (codes "drop ") line.now) }
+{
+    match after_word(b"drop ", line) {
+        Some(text) => drop_order(text),
+        None => None,
+    }
+}
+
+fn admit_line(line: &[u8]) -> Option<Order>
+    ensures { result ≡ option_map Admit (session_after_of (codes "admit ") line.now) }
+{
+    match session_after(b"admit ", line) {
+        Some(session) => Some(Order::Admit(session)),
+        None => None,
+    }
+}
+
+fn take_line(line: &[u8]) -> Option<Order>
+    ensures { result ≡ option_map Take (session_after_of (codes "take ") line.now) }
+{
+    match session_after(b"take ", line) {
+        Some(session) => Some(Order::Take(session)),
+        None => None,
+    }
+}
+
+fn eof_line(line: &[u8]) -> Option<Order>
+    ensures { result ≡ option_map Eof (session_after_of (codes "eof ") line.now) }
+{
+    match session_after(b"eof ", line) {
+        Some(session) => Some(Order::Eof(session)),
+        None => None,
+    }
+}
+
+fn long_order(line: &[u8]) -> Option<Order>
+    ensures { result ≡ long_order_of line.now }
+{
+    text_line(line).or(admit_line(line).or(finish_line(line).or(take_line(line).or(eof_line(
+        line,
+    ).or(drop_line(line))))))
+}
+
+/// The order of a line of a script; None for any other line.
+pub fn order_of_line(line: &[u8]) -> Option<Order>
+    ensures { result ≡ order_of line.now }
+{
+    if line == b"open".as_slice() {
+        return Some(Order::Open);
+    }
+    if line == b"start".as_slice() {
+        return Some(Order::Start);
+    }
+    long_order(line)
+}
+
+/// The text that a `text` line feeds: what follows its session number and a blank.
+pub fn fed_by(line: &[u8]) -> &[u8]
+    requires { 5 ≤ length line.now }
+    ensures { result.now ≡ fed_by_of line.now }
+{
+    after_blank(&line[5..])
+}
