@@ -9,7 +9,7 @@ mod printing;
 mod strings;
 pub mod value;
 
-pub use members::{MemberFault, Members};
+pub use members::{MemberFault, Members, has_member};
 pub use value::{Json, Member};
 
 #[cfg(test)]

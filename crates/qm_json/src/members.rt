@@ -43,6 +43,13 @@ fn find<'a>(members: &'a [Member], name: &[u8]) -> Option<&'a Json>
     Some(&member.value)
 }
 
+/// Whether a member has the name.
+pub fn has_member(members: &[Member], name: &[u8]) -> bool
+    ensures { result ≡ has_name members.now name.now }
+{
+    members.iter().any(|m| m.name.as_slice() == name)
+}
+
 impl Members {
     /// No members. It takes no memory.
     pub fn new(alloc: Global) -> Members
@@ -60,14 +67,6 @@ impl Members {
         self.items.as_slice()
     }
 
-    /// Whether a member has the name.
-    pub fn has(&self, name: &[u8]) -> bool
-        ensures { result ≡ has_name self.now name.now }
-    {
-        let members = self.items.as_slice();
-        members.iter().any(|m| m.name.as_slice() == name)
-    }
-
     /// Appends a member. `Twice` comes exactly where the name is there; after an error the members
     /// are as before.
     pub fn push(&mut self, name: Text, value: Json) -> Result<(), MemberFault>
@@ -76,7 +75,7 @@ impl Members {
         ensures twice { (result ≡ Err MemberFault.Twice) ↔ (has_name self.old name ≡ true) }
         ensures fresh { OnOk result (has_name self.old name ≡ false) }
     {
-        if self.has(name.as_slice()) {
+        if has_member(self.items.as_slice(), name.as_slice()) {
             return Err(MemberFault::Twice);
         }
         match self.items.push(Member { name, value }) {

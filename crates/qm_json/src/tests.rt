@@ -1,6 +1,6 @@
 //! Printed texts, with escapes as in RFC 8259, section 7, and each call once.
 
-use crate::{Json, MemberFault, Members};
+use crate::{Json, MemberFault, Members, has_member};
 use qm_base::{NoMemory, Text};
 use sqlite_items::Items;
 use std::alloc::Global;
@@ -115,8 +115,8 @@ fn a_name_is_taken_once(rt: HostRuntime) -> Result<(), Fail> {
     let again = members.push(Text::of(rt.alloc(), b"id")?, Json::Int(2));
     assert!(rt; again == Err(MemberFault::Twice));
     members.push(Text::of(rt.alloc(), b"ID")?, Json::Int(3))?;
-    assert!(rt; members.has(b"ID"));
-    assert!(rt; !members.has(b"Id"));
+    assert!(rt; has_member(members.as_slice(), b"ID"));
+    assert!(rt; !has_member(members.as_slice(), b"Id"));
     expect(&rt, &members.into_json(), "{\"id\": 1, \"ID\": 3}")?;
     Ok(())
 }
