@@ -6,3 +6,6 @@ pub mod writing;
 
 pub use texts::entry_text;
 pub use writing::{HistoryFault, write_history};
+
+#[cfg(test)]
+mod tests;

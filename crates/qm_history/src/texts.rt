@@ -148,7 +148,8 @@ fn put_admit(
 }
 
 fn put_start(out: &mut Text, session: u32, number: u64) -> Result<(), NoMemory>
-    ensures { OnOk result (out.new ≡ out.old ++ (codes " start " ++ request_text_of session number ++ codes "\n")) }
+    ensures { OnOk result (out.new ≡ out.old
+        ++ (codes " start " ++ request_text_of session number ++ codes "\n")) }
 {
     out.extend(b" start ")?;
     put_request(out, session, number)?;

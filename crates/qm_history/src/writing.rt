@@ -37,15 +37,17 @@ impl From<SinkFailed> for HistoryFault {
     }
 }
 
-/// Puts the text of a journal into a sink. `SinkFault` comes exactly where the sink failed. After an
-/// error a part of the text was put.
+/// Puts the text of a journal into a sink. `SinkFault` comes exactly where the sink failed. After
+/// an error a part of the text was put.
 pub fn write_history<S: Sink>(
     alloc: Global,
     journal: &EntryList,
     sink: &mut S,
 ) -> Result<(), HistoryFault>
-    ensures text { Puts (S.contents sink.old) (text_of journal.now.items) result (S.contents sink.new) }
-    ensures failed { result ≡ Err HistoryFault.SinkFault → Rose (S.faults sink.old) (S.faults sink.new) }
+    ensures text { Puts (S.contents sink.old) (text_of journal.now.items) result
+        (S.contents sink.new) }
+    ensures failed { result ≡ Err HistoryFault.SinkFault →
+        Rose (S.faults sink.old) (S.faults sink.new) }
     ensures kept { result ≢ Err HistoryFault.SinkFault → S.faults sink.new ≡ S.faults sink.old }
 {
     let entries = journal.as_slice();
