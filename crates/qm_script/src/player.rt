@@ -1,4 +1,4 @@
-ghost use Rattle.std.specs.Prelude.{◌≡◌, ◌≤◌, ◌++◌, ◌∷◌, [], IfOk, Some, length};
+ghost use Rattle.std.specs.Prelude.{◌≡◌, ◌≤◌, ◌++◌, ◌∷◌, [], IfOk, Some, None, length};
 ghost use Rattle.qm_core.specs.Legal.{past_of};
 ghost use Rattle.qm_core.specs.Next.{Start, Take, End, Drop, session_refusal};
 ghost use Rattle.qm_core.specs.Next as step;
@@ -99,14 +99,55 @@ impl Player {
         }
     }
 
+    fn stepped(self) -> Turn
+        ensures { result ≡ record { player = self; stop = None } }
+    {
+        Turn {
+            player: self,
+            stop: None,
+        }
+    }
+
+    fn open(mut self, alloc: Global) -> Result<Turn, NoMemory>
+        ensures { IfOk result (Turns self (open_step self.entries self.played)) }
+    {
+        if self.feeder.is_some() {
+            return Ok(self.refused(Stop::BadLine));
+        }
+        let feeder = Feeder::new(alloc)?;
+        match self.monitor.open(alloc) {
+            Ok(_) => {
+                self.feeder = Some(feeder);
+                Ok(self.stepped())
+            }
+            Err(StepFault::Memory) => Err(NoMemory),
+            Err(fault) => Ok(self.refused(stop_of(fault))),
+        }
+    }
+
+    fn take(mut self, session: u32) -> Turn
+        ensures { Turns self (core_step self.entries self.played (Take session)) result }
+    {
+        match self.monitor.take(session) {
+            Ok(_) => self.stepped(),
+            Err(fault) => self.refused(stop_of(fault)),
+        }
+    }
+
     fn end(mut self, session: u32) -> Turn
         ensures { Turns self (core_step self.entries self.played (End session)) result }
     {
         match self.monitor.end(session) {
-            Ok(()) => Turn {
-                player: self,
-                stop: None,
-            },
+            Ok(()) => self.stepped(),
+            Err(fault) => self.refused(stop_of(fault)),
+        }
+    }
+
+    fn drop_ended(mut self, session: u32) -> Turn
+        ensures { Turns self (core_step self.entries self.played (Drop session cause.Ended)) result }
+    {
+        match self.monitor.drop_session(session, Cause::Ended) {
+            Ok(()) => self.stepped(),
             Err(fault) => self.refused(stop_of(fault)),
         }
     }
