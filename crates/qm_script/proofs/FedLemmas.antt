@@ -1,9 +1,50 @@
--- The inputs of no bytes.
-use Rattle.std.proofs.Common.{◌≡◌, ℕ, List, [], refl}
+-- The inputs of bytes: there are none of no bytes, and all are clean.
+use Rattle.std.proofs.Common.{◌≡◌, ◌<◌, ℕ, List, [], ◌∷◌, map, length, get_or, Option, Some, None, Result, Ok, Err, refl, sym, ◌∙◌, subst, inl, inr}
+use Rattle.std.specs.List.{slice_get, All}
+use Rattle.std.proofs.lemmas.List.Elements.{All-get_or}
+use Rattle.std.proofs.lemmas.Option.{slice_get_cases}
+use Rattle.qm_json.specs.Cleanness.{IsClean}
+use Rattle.qm_json.specs.declared.value.Json.{Json}
+use Rattle.qm_core.specs.Inputs.{IsCleanInput}
 use Rattle.qm_core.specs.declared.inputs.Input.{Input}
 use Rattle.qm_frame.specs.Framing.{frames_of}
-use Rattle.qm_script.specs.Fed.{fed_inputs_of}
+use Rattle.qm_frame.specs.declared.step.FrameFault.{FrameFault}
+use Rattle.qm_read.specs.Faults.{reading_of}
+use Rattle.qm_read.specs.Inputs.{taken_of, read_as}
+use Rattle.qm_read.specs.declared.fault.JsonFault.{JsonFault}
+use Rattle.qm_read.specs.declared.fault.JsonFault.TheVariants.{Expected, Duplicate, BadEscape, BadUtf8, Memory}
+use Rattle.qm_read.proofs.CleanValues.{read-clean}
+use Rattle.qm_script.specs.Fed.{fed_inputs_of, input_of, text_input_of}
 
 pub fed_inputs_of_nothing : (bytes : List ℕ) → bytes ≡ [] → [] ≡ fed_inputs_of bytes
 unfolding frames_of
 fed_inputs_of_nothing bytes none = rw none refl
+
+clean_text : (fault : JsonFault) → IsCleanInput (text_input_of fault)
+clean_text (Expected at) = tt
+clean_text (Duplicate at) = tt
+clean_text (BadEscape at) = tt
+clean_text (BadUtf8 at) = tt
+clean_text Memory = tt
+
+clean_read : (read : Result Json JsonFault) → ((value : Json) → read ≡ Ok value → IsClean value) → IsCleanInput (input_of (read_as read))
+clean_read (Ok value) clean = clean value refl
+clean_read (Err fault) clean = clean_text fault
+
+clean_frame : (frame : Result (List ℕ) FrameFault) → IsCleanInput (input_of (taken_of frame))
+clean_frame (Ok message) = clean_read (reading_of message) (λ value e. read-clean message value e)
+clean_frame (Err fault) = tt
+
+all_clean : (frames : List (Result (List ℕ) FrameFault)) → All IsCleanInput (map input_of (map taken_of frames))
+all_clean [] = tt
+all_clean (frame ∷ frames) = (clean_frame frame, all_clean frames)
+
+clean_at : (inputs : List Input) (place : ℕ) (input : Input) → All IsCleanInput inputs → slice_get inputs place ≡ Some input → IsCleanInput input
+clean_at inputs place input all there = elim (slice_get_cases inputs place).1 [
+  | inl found ↦ ?
+  | inr past ↦ absurd (let e : None ≡ Some input = sym past.1 ∙ there in cc)
+]
+
+-- an input of bytes is clean
+pub fed_clean : (bytes : List ℕ) (place : ℕ) (input : Input) → slice_get (fed_inputs_of bytes) place ≡ Some input → IsCleanInput input
+fed_clean bytes place input there = clean_at (fed_inputs_of bytes) place input (all_clean (frames_of bytes)) there

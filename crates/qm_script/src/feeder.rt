@@ -1,5 +1,5 @@
-ghost use Rattle.std.specs.Prelude.{◌≡◌, [], ◌∷◌, ◌++◌, IfOk, slice_get};
-ghost use Rattle.std.specs.Option.{option_copied};
+ghost use Rattle.std.specs.Prelude.{◌≡◌, [], ◌∷◌, ◌++◌, IfOk, IfSome, slice_get};
+ghost use Rattle.qm_core.specs.Inputs.{IsCleanInput};
 ghost use Rattle.qm_script.specs.Fed.{frame_word_of, text_input_of, input_of, fed_inputs_of};
 
 use qm_base::{NoMemory, Shared};
@@ -42,6 +42,18 @@ fn make_input(alloc: Global, taken: Taken) -> Result<Input, NoMemory>
         },
         Taken::BadFrame(fault) => Ok(Input::Bad(BadInput::Frame(frame_word(fault)))),
         Taken::BadText(fault) => Ok(text_input(fault)),
+    }
+}
+
+fn again(input: &Input) -> Result<Input, NoMemory>
+    ensures { IfOk result (λ other. other ≡ input.now) }
+{
+    match input {
+        Input::Doc(value) => match value.again() {
+            Ok(value) => Ok(Input::Doc(value)),
+            Err(NoMemory) => Err(NoMemory),
+        },
+        Input::Bad(bad) => Ok(Input::Bad(*bad)),
     }
 }
 
@@ -120,10 +132,17 @@ impl Feeder {
         Ok(Feeder { framer, inputs })
     }
 
-    /// The input of this place, from 0 on, if the bytes hold so many.
-    pub fn input(&self, place: u64) -> Option<&Input>
-        ensures { option_copied result ≡ slice_get (fed_inputs_of self.now) place }
+    /// The input of this place, from 0 on, if the bytes hold so many. It is clean.
+    pub fn input(&self, place: u64) -> Result<Option<Input>, NoMemory>
+        ensures value { IfOk result (λ input. input ≡ slice_get (fed_inputs_of self.now) place) }
+        ensures clean { IfOk result (λ input. IfSome input IsCleanInput) }
     {
-        self.inputs.get(place as usize)
+        match self.inputs.get(place as usize) {
+            Some(input) => match again(input) {
+                Ok(input) => Ok(Some(input)),
+                Err(NoMemory) => Err(NoMemory),
+            },
+            None => Ok(None),
+        }
     }
 }
