@@ -21,7 +21,7 @@ pub use journal::EntryList;
 pub use lines::LineList;
 pub use monitor::{Limits, Monitor};
 pub use offers::Offer;
-pub use requests::{Request, Started};
+pub use requests::{Admitted, Request, Started};
 pub use verdicts::{Class, Command, Refusal, Verdict};
 
 /// How many sessions may ever be opened.

@@ -116,8 +116,7 @@ impl Monitor {
     fn is_drained(&self) -> bool
         ensures { result ≡ is_drained 1 (past_of self.now.journal) }
     {
-        self.is_known(1)
-            && !self.session.dropped
+        self.session.is_open()
             && self.session.ended
             && self.in_flight() == 0
             && self.session.outbox.len() == 0
