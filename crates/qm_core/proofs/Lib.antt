@@ -1,3 +1,4 @@
 pub mod Journals
+pub mod KeptMonitors
 pub mod KeptSessions
 pub mod Transcripts

@@ -19,6 +19,7 @@ pub(crate) struct Session {
 
 impl Session {
     ghost use Rattle.std.specs.Prelude.{◌≡◌, ◌&&◌, not, cond, [], ◌∷◌, ◌++◌, OnOk, OnErr};
+    ghost use Rattle.qm_caps.specs.declared.mode.Mode.TheVariants.{Command};
     ghost use Rattle.qm_core.specs.Kept.{unopened};
 
     /// A session that was not opened. It takes no memory.
@@ -43,15 +44,21 @@ impl Session {
         self.opened && !self.dropped
     }
 
-    /// Puts a line into the outbox while the session is open. An error leaves it as it was.
-    pub(crate) fn send(&mut self, line: Shared<Text>) -> Result<(), NoMemory>
-        ensures ok { OnOk result (self.new ≡ record self.old { outbox =
-            cond (self.old.opened && not self.old.dropped) (self.old.outbox ++ line ∷ []) self.old.outbox }) }
+    /// Puts a reply's line into the outbox while the session is open, and opens the command mode
+    /// where the reply does so. An error leaves it as it was.
+    pub(crate) fn answer(&mut self, line: Shared<Text>, opens_commands: bool) -> Result<(), NoMemory>
+        ensures ok { OnOk result (self.new ≡ record self.old {
+            mode = cond opens_commands Command self.old.mode;
+            outbox = cond (self.old.opened && not self.old.dropped) (self.old.outbox ++ line ∷ []) self.old.outbox;
+        }) }
         ensures err { OnErr result (self.new ≡ self.old) }
     {
-        if !self.is_open() {
-            return Ok(());
+        if self.is_open() {
+            self.outbox.put(line)?;
         }
-        self.outbox.put(line)
+        if opens_commands {
+            self.mode = Mode::Command;
+        }
+        Ok(())
     }
 }

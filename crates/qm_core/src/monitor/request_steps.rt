@@ -15,7 +15,7 @@ use crate::offers::{Offer, Owners};
 use crate::replies;
 use crate::requests::{Admitted, Request, Started};
 use qm_base::{NoMemory, Shared, Text};
-use qm_caps::{Lane, Mode, bound};
+use qm_caps::{Lane, bound};
 use qm_json::Json;
 use std::alloc::Global;
 
@@ -47,6 +47,7 @@ impl Monitor {
     ghost use Rattle.qm_core.specs.Kept.{IsFirstOpen, admit_refusal, room_refusal};
     ghost use Rattle.qm_core.specs.declared.entries.StepFault.{StepFault};
 
+    #[tactic(auto, using(crate::proofs::KeptSessions::none_waits))]
     fn may_admit(&self, session: u32) -> Result<(), StepFault>
         ensures fault { result_err result ≡ admit_refusal self.now.limits.entries session (past_of self.now.journal) }
         ensures open { OnOk result (IsFirstOpen (past_of self.now.journal) session) }
@@ -181,12 +182,9 @@ impl Monitor {
             line,
             opens_commands,
         } = answer_to(alloc, request)?;
-        self.session.send(line)?;
-        if opens_commands {
-            self.session.mode = Mode::Command;
-        }
+        self.session.answer(line, opens_commands)?;
         self.running = None;
-        self.last_moment = self.last_moment.max(moment);
+        self.last_moment = moment.max(self.last_moment);
         self.journal.put(Entry::Done {
             session,
             number,
