@@ -1,5 +1,5 @@
 -- What the fields of a monitor keep, after one more entry.
-use Rattle.std.proofs.Common.{◌≡◌, ℕ, ◌+◌, ◌<◌, ◌≤◌, max, Bool, false, not, cond, ◌&&◌, Option, Some, None, List, [], ◌∷◌, ◌++◌, length, refl, ap, sym, ◌∙◌, subst, arith, IfSome}
+use Rattle.std.proofs.Common.{◌≡◌, ℕ, ◌+◌, ◌<◌, ◌≤◌, max, Bool, false, not, cond, ◌&&◌, Option, Some, None, List, [], ◌∷◌, ◌++◌, length, refl, ap, arith}
 use Rattle.qm_base.specs.Reserving.{Reserved}
 use Rattle.qm_json.specs.Printing.{printed}
 use Rattle.qm_json.specs.declared.value.Json.{Json}

@@ -6,6 +6,7 @@ pub mod entries;
 pub mod inputs;
 pub mod journal;
 mod judging;
+pub mod laws;
 pub mod lines;
 pub mod monitor;
 pub mod offers;

@@ -46,10 +46,14 @@ impl Session {
 
     /// Puts a reply's line into the outbox while the session is open, and opens the command mode
     /// where the reply does so. An error leaves it as it was.
-    pub(crate) fn answer(&mut self, line: Shared<Text>, opens_commands: bool) -> Result<(), NoMemory>
+    pub(crate) fn answer(
+        &mut self,
+        line: Shared<Text>,
+        opens_commands: bool,
+    ) -> Result<(), NoMemory>
         ensures ok { OnOk result (self.new ≡ record self.old {
-            mode = cond opens_commands Command self.old.mode;
-            outbox = cond (self.old.opened && not self.old.dropped) (self.old.outbox ++ line ∷ []) self.old.outbox;
+          mode = cond opens_commands Command self.old.mode;
+          outbox = cond (self.old.opened && not self.old.dropped) (self.old.outbox ++ line ∷ []) self.old.outbox;
         }) }
         ensures err { OnErr result (self.new ≡ self.old) }
     {

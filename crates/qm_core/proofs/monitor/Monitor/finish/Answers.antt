@@ -1,4 +1,3 @@
-use Rattle.std.proofs.Common.{◌∙◌, sym}
 use Rattle.qm_core.proofs.KeptMonitors.{sound-done}
 use Rattle.qm_core.proofs.monitor.Monitor.finish.Goals as goal
 
