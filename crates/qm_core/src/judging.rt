@@ -72,7 +72,8 @@ fn verb(members: &[Member]) -> Option<&Member>
 }
 
 fn has_two_verbs(members: &[Member]) -> bool
-    ensures { result ≡ (has_name members.now (codes "execute") && has_name members.now (codes "exec-oob")) }
+    ensures { result ≡ (has_name members.now (codes "execute")
+        && has_name members.now (codes "exec-oob")) }
 {
     has_member(members, b"execute") && has_member(members, b"exec-oob")
 }
@@ -188,7 +189,8 @@ fn command_verdict(
     name: &[u8],
     arguments: &[Member],
 ) -> Result<Verdict, NoMemory>
-    ensures { IfOk result (λ verdict. verdict ≡ run_or (misplaced mode name.now arguments.now) (command_of_name name.now)) }
+    ensures { IfOk result (λ verdict. verdict ≡
+        run_or (misplaced mode name.now arguments.now) (command_of_name name.now)) }
 {
     if let Some(refusal) = misplaced(alloc, mode, name, arguments)? {
         return Ok(Verdict::Refused(refusal));

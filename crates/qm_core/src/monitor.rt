@@ -12,6 +12,7 @@ use qm_base::{NoMemory, ReservedList};
 use std::alloc::Global;
 use std::marker::Model;
 
+mod counts;
 mod request_steps;
 mod session_steps;
 

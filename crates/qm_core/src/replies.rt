@@ -234,3 +234,6 @@ pub(crate) fn negotiates(request: &Request) -> bool
         Input::Bad(_) => false,
     }
 }
+
+#[cfg(test)]
+mod tests;

@@ -1,7 +1,7 @@
 //! Messages in a stream of bytes, found byte by byte.
 #![tactic(auto)]
 
-mod bytes;
+pub mod bytes;
 pub mod framer;
 mod judging;
 mod open_text;

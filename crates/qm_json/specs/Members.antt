@@ -1,5 +1,5 @@
 -- Members of objects by their names (RFC 8259, section 4).
-use Rattle.std.specs.Prelude.{ℕ, Bool, List, [], Option, option_map, find, map}
+use Rattle.std.specs.Prelude.{ℕ, Bool, List, [], Option, option_map, find}
 use Rattle.std.specs.List.{list_any}
 use Rattle.std.specs.Str.{bytes_eq}
 use Rattle.qm_json.specs.declared.value.Json.{Json}

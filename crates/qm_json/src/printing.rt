@@ -1,4 +1,4 @@
-ghost use Rattle.std.specs.Prelude.{◌≡◌, ◌++◌, codes, map};
+ghost use Rattle.std.specs.Prelude.{◌≡◌, ◌++◌, codes, map, OnOk, OnErr};
 ghost use Rattle.qm_base.specs.Prefixes.{Writes};
 ghost use Rattle.qm_json.specs.Strings.{quoted};
 ghost use Rattle.qm_json.specs.Printing.{printed, printed_member, joined, placed, array_text, object_text};
@@ -38,12 +38,19 @@ fn write_value(value: &Json, out: &mut Text) -> Result<(), NoMemory>
     }
 }
 
+fn write_comma(out: &mut Text) -> Result<(), NoMemory>
+    ensures ok { OnOk result (out.new ≡ out.old ++ codes ", ") }
+    ensures err { OnErr result (out.new ≡ out.old) }
+{
+    out.extend(b", ")
+}
+
 #[cycle(write)]
 fn write_item(later: bool, item: &Json, out: &mut Text) -> Result<(), NoMemory>
     ensures { Writes out.old (placed later (printed item.now)) result out.new }
 {
     if later {
-        out.extend(b", ")?;
+        write_comma(out)?;
     }
     write_value(item, out)
 }
@@ -87,7 +94,7 @@ fn write_next_member(later: bool, member: &Member, out: &mut Text) -> Result<(),
     ensures { Writes out.old (placed later (printed_member member.now)) result out.new }
 {
     if later {
-        out.extend(b", ")?;
+        write_comma(out)?;
     }
     write_member(member, out)
 }

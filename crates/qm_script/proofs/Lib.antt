@@ -1,1 +1,2 @@
+pub mod FedLemmas
 pub mod LineLemmas

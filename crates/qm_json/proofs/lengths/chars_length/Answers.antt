@@ -1,7 +1,6 @@
-use Rattle.std.proofs.Common.{◌≡◌, ◌+◌, length, chars, ap, ◌∙◌, arith, length-append}
-use Rattle.std.specs.Str.Iter.{chars_rest}
+use Rattle.std.proofs.Common.{length, ap, ◌∙◌, arith, length-append}
 use Rattle.std.proofs.lemmas.Str.{IsUtf8-past_char}
-use Rattle.qm_json.specs.Strings.{escaped, escapes}
+use Rattle.qm_json.specs.Strings.{escaped}
 use Rattle.qm_json.proofs.Chunks.{char_left, no_chars}
 use Rattle.qm_json.proofs.Measures.{measures_less, measures_none}
 use Rattle.qm_json.proofs.lengths.chars_length.Goals as goal

@@ -1,4 +1,4 @@
-use Rattle.std.proofs.Common.{sym, ap, length, ◌∙◌, arith}
+use Rattle.std.proofs.Common.{sym, ap, length, arith}
 use Rattle.qm_json.proofs.Plain.{plain_points}
 use Rattle.qm_json.proofs.lengths.escaped_length.Goals as goal
 

@@ -1,4 +1,4 @@
-use Rattle.std.proofs.Common.{◌≡◌, not, ap}
+use Rattle.std.proofs.Common.{not, ap}
 use Rattle.qm_json.specs.Strings.{chunk_escapes}
 use Rattle.qm_json.proofs.Chunks.{chunk_of, chunk_left, no_points}
 use Rattle.qm_json.proofs.Texts.{remains_less, remains_none, remains_stops}

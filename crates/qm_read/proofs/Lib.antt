@@ -1,0 +1,12 @@
+pub mod Accepts
+pub mod CleanTexts
+pub mod CleanTokens
+pub mod CleanValues
+pub mod Feeds
+pub mod FirstFaults
+pub mod Fresh
+pub mod Holds
+pub mod Lexing
+pub mod LiteralLemmas
+pub mod Runs
+pub mod StringLemmas

@@ -1,0 +1,36 @@
+-- The value of a text, or its first fault (this project's own rule).
+use Rattle.std.specs.Prelude.{ℕ, List, [], ◌∷◌, length, Result, Ok, Err}
+use Rattle.qm_json.specs.declared.value.Json.{Json}
+use Rattle.qm_read.specs.declared.fault.JsonFault.{JsonFault}
+use Rattle.qm_read.specs.declared.fault.JsonFault.TheVariants.{Expected}
+use Rattle.qm_read.specs.declared.stack.Open.{Open}
+use Rattle.qm_read.specs.declared.stack.Open.TheVariants.{Whole}
+use Rattle.qm_read.specs.declared.token.Placed.{Placed}
+use Rattle.qm_read.specs.Steps.{State, begun, step}
+use Rattle.qm_read.specs.Tokens.{tokens_of}
+
+abbrev pub on : Result State JsonFault → (State → Result State JsonFault) → Result State JsonFault
+on (Ok s) next = next s
+on (Err fault) next = Err fault
+
+-- tokens from the left, up to the first fault
+abbrev pub run : State → List Placed → Result State JsonFault
+run s [] = Ok s
+run s (t ∷ ts) = on (step s t.token t.place) (λ next. run next ts)
+
+-- the value, if it is whole where a text of this length ends
+abbrev pub whole : List Open → ℕ → Result Json JsonFault
+whole (Whole v ∷ outer) length = Ok v
+whole _ length = Err (Expected length)
+
+abbrev pub ended : Result State JsonFault → ℕ → Result Json JsonFault
+ended (Ok s) length = whole s.stack length
+ended (Err fault) length = Err fault
+
+-- the value of a text of these tokens and this length, or its first fault
+abbrev pub reading : List Placed → ℕ → Result Json JsonFault
+reading ts length = ended (run begun ts) length
+
+-- the value that a text spells, or its first fault
+unfoldable pub reading_of : List ℕ → Result Json JsonFault
+reading_of text = reading (tokens_of text) (length text)

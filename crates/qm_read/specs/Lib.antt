@@ -1,0 +1,10 @@
+pub mod Bytes
+pub mod Faults
+pub mod Feeding
+pub mod Inputs
+pub mod Spelling
+pub mod Steps
+pub mod Strings
+pub mod Texts
+pub mod Tokens
+pub mod Viable

@@ -1,0 +1,113 @@
+-- Reading a value token by token: what is open, and what may stand next (this project's own rule).
+use Rattle.std.specs.Prelude.{ℕ, ◌+◌, nat_lt, Bool, true, false, cond, ◌&&◌, List, [], ◌∷◌, ◌++◌, length, Result, Ok, Err}
+use Rattle.qm_json.specs.declared.value.Json.{Json}
+use Rattle.qm_json.specs.declared.value.Json.TheVariants as json
+use Rattle.qm_json.specs.Members.{has_name}
+use Rattle.qm_read.specs.declared.TheConstants.{DEPTH}
+use Rattle.qm_read.specs.declared.fault.JsonFault.{JsonFault}
+use Rattle.qm_read.specs.declared.fault.JsonFault.TheVariants.{Expected, Duplicate}
+use Rattle.qm_read.specs.declared.stack.Expect.{Expect}
+use Rattle.qm_read.specs.declared.stack.Expect.TheVariants.{Value, ValueOrEnd, Name, NameOrEnd, Colon, CommaOrEnd, End}
+use Rattle.qm_read.specs.declared.stack.Open.{Open}
+use Rattle.qm_read.specs.declared.stack.Open.TheVariants.{Top, Arr, Obj, Whole}
+use Rattle.qm_read.specs.declared.token.Token.{Token}
+use Rattle.qm_read.specs.declared.token.Token.TheVariants as tokens
+
+-- what was read: what is open, the innermost first, and what may stand next
+pub record State : Type 0 where
+  pub stack : List Open
+  pub expect : Expect
+
+abbrev pub begun : State
+begun = record { stack = Top ∷ []; expect = Value }
+
+abbrev pub takes_value : Expect → Bool
+takes_value Value = true
+takes_value ValueOrEnd = true
+takes_value _ = false
+
+abbrev pub takes_name : Expect → Bool
+takes_name Name = true
+takes_name NameOrEnd = true
+takes_name _ = false
+
+-- what a value makes of what it stands in
+abbrev pub given : Open → Json → Open
+given (Arr items) v = Arr (items ++ v ∷ [])
+given (Obj members name) v = Obj (members ++ record { name = name; value = v } ∷ []) []
+given Top v = Whole v
+given (Whole w) v = Whole v
+
+abbrev pub after_value : Open → Expect
+after_value (Arr items) = CommaOrEnd
+after_value (Obj members name) = CommaOrEnd
+after_value Top = End
+after_value (Whole w) = End
+
+abbrev pub put : Json → List Open → State
+put v [] = record { stack = []; expect = End }
+put v (top ∷ outer) = record { stack = given top v ∷ outer; expect = after_value top }
+
+abbrev pub value_step : State → Json → ℕ → Result State JsonFault
+value_step s v place = cond (takes_value s.expect) (Ok (put v s.stack)) (Err (Expected place))
+
+-- an opener, after which something may stand
+abbrev pub open_step : State → Open → Expect → ℕ → Result State JsonFault
+open_step s top next place =
+    cond (takes_value s.expect && nat_lt (length s.stack) (DEPTH + 1))
+    (Ok record { stack = top ∷ s.stack; expect = next }) (Err (Expected place))
+
+abbrev pub name_step : List Open → List ℕ → ℕ → Result State JsonFault
+name_step (Obj members old ∷ outer) name place =
+    cond (has_name members name) (Err (Duplicate place)) (Ok record { stack = Obj members name ∷ outer; expect = Colon })
+name_step _ name place = Err (Expected place)
+
+-- a value that ended what was innermost goes into what is around it
+abbrev pub left : List Open → Json → ℕ → Result State JsonFault
+left (top ∷ next ∷ outer) v place = Ok (put v (next ∷ outer))
+left _ v place = Err (Expected place)
+
+abbrev pub ends_array : Expect → Bool
+ends_array ValueOrEnd = true
+ends_array CommaOrEnd = true
+ends_array _ = false
+
+abbrev pub ends_object : Expect → Bool
+ends_object NameOrEnd = true
+ends_object CommaOrEnd = true
+ends_object _ = false
+
+abbrev pub close_array : List Open → ℕ → Result State JsonFault
+close_array (Arr items ∷ outer) place = left (Arr items ∷ outer) (json.Arr items) place
+close_array _ place = Err (Expected place)
+
+abbrev pub close_object : List Open → ℕ → Result State JsonFault
+close_object (Obj members name ∷ outer) place = left (Obj members name ∷ outer) (json.Obj members) place
+close_object _ place = Err (Expected place)
+
+abbrev pub after_comma : List Open → Expect
+after_comma (Obj members name ∷ outer) = Name
+after_comma _ = Value
+
+abbrev pub comma_step : Expect → List Open → ℕ → Result State JsonFault
+comma_step CommaOrEnd stack place = Ok record { stack = stack; expect = after_comma stack }
+comma_step _ stack place = Err (Expected place)
+
+abbrev pub colon_step : Expect → List Open → ℕ → Result State JsonFault
+colon_step Colon stack place = Ok record { stack = stack; expect = Value }
+colon_step _ stack place = Err (Expected place)
+
+-- one token: first the token itself, then whether it may stand there, then whether it is a new name
+abbrev pub step : State → Token → ℕ → Result State JsonFault
+step s (tokens.Bad fault) place = Err fault
+step s tokens.Null place = value_step s json.Null place
+step s (tokens.Bool b) place = value_step s (json.Bool b) place
+step s (tokens.Int n) place = value_step s (json.Int n) place
+step s (tokens.Num text) place = value_step s (json.Num text) place
+step s (tokens.Str text) place = cond (takes_name s.expect) (name_step s.stack text place) (value_step s (json.Str text) place)
+step s tokens.OpenArray place = open_step s (Arr []) ValueOrEnd place
+step s tokens.OpenObject place = open_step s (Obj [] []) NameOrEnd place
+step s tokens.CloseArray place = cond (ends_array s.expect) (close_array s.stack place) (Err (Expected place))
+step s tokens.CloseObject place = cond (ends_object s.expect) (close_object s.stack place) (Err (Expected place))
+step s tokens.Comma place = comma_step s.expect s.stack place
+step s tokens.Colon place = colon_step s.expect s.stack place

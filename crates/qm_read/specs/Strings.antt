@@ -1,0 +1,119 @@
+-- Strings: where they end, and what their bytes stand for (RFC 8259, section 7; single quotes and
+-- the escape `\'` are this project's own rule).
+use Rattle.std.specs.Prelude.{ℕ, ◌+◌, ◌*◌, ◌==◌, nat_lt, Bool, not, cond, ◌&&◌, ◌||◌, zero, suc, List, [], ◌∷◌, ◌++◌, take, drop, length, Option, Some, None, option_map, Result, Ok, Err, encode_utf8}
+use Rattle.std.specs.Char.{digit_value}
+use Rattle.std.specs.Char.Utf16.{is_high_surrogate, is_low_surrogate, surrogate_pair_char}
+use Rattle.std.specs.Str.{continuation_len, is_utf8}
+use Rattle.qm_read.specs.declared.fault.JsonFault.{JsonFault}
+use Rattle.qm_read.specs.declared.fault.JsonFault.TheVariants.{BadEscape, BadUtf8}
+use Rattle.qm_read.specs.declared.strings.Part.{Part}
+use Rattle.qm_read.specs.declared.strings.Part.TheVariants.{Same, Char}
+use Rattle.qm_read.specs.Bytes.{Byte}
+
+-- a control character, which stands in no string
+abbrev pub is_control : ℕ → Bool
+is_control x = nat_lt x 32
+
+-- a backslash takes the next byte, unless a backslash took it
+abbrev pub takes_next : Bool → ℕ → Bool
+takes_next taken x = not taken && x == 92
+
+-- a byte ends a string of this quote: a control character, or the quote unless a backslash took it
+abbrev pub ends_string : ℕ → Bool → ℕ → Bool
+ends_string quote taken x = is_control x || (not taken && x == quote)
+
+-- how many bytes of a string stand before the one that ends it
+abbrev pub raw_length : ℕ → Bool → List Byte → Option ℕ
+raw_length quote taken [] = None
+raw_length quote taken (x ∷ rest) =
+    cond (ends_string quote taken x.code) (Some 0) (option_map (λ n. n + 1) (raw_length quote (takes_next taken x.code) rest))
+
+-- the last of these bytes is a backslash that takes the next
+abbrev pub is_escaping : Bool → List ℕ → Bool
+is_escaping taken [] = taken
+is_escaping taken (x ∷ rest) = is_escaping (takes_next taken x) rest
+
+abbrev pub is_hex : ℕ → Bool
+is_hex x = nat_lt (digit_value x) 16
+
+-- the number of four hexadecimal digits at the front
+abbrev pub hex_of : List ℕ → Option ℕ
+hex_of (a ∷ b ∷ c ∷ d ∷ rest) =
+    cond (is_hex a && is_hex b && is_hex c && is_hex d)
+    (Some (((digit_value a * 16 + digit_value b) * 16 + digit_value c) * 16 + digit_value d)) None
+hex_of _ = None
+
+-- the number of an escape `\uXXXX` at the front
+abbrev pub unicode_of : List ℕ → Option ℕ
+unicode_of (x ∷ y ∷ rest) = cond (x == 92 && y == 117) (hex_of rest) None
+unicode_of _ = None
+
+-- a surrogate is half a character: a high one and a low one are a whole
+abbrev pub pair_of : ℕ → ℕ → Option ℕ → Result Part JsonFault
+pair_of place high None = Err (BadEscape place)
+pair_of place high (Some low) =
+    cond (is_high_surrogate high && is_low_surrogate low) (Ok (Char (surrogate_pair_char high low) 11)) (Err (BadEscape place))
+
+-- an escape `\uXXXX` by its number, before further bytes
+abbrev pub unicode_escape : ℕ → Option ℕ → List ℕ → Result Part JsonFault
+unicode_escape place None rest = Err (BadEscape place)
+unicode_escape place (Some c) rest =
+    cond (is_high_surrogate c || is_low_surrogate c) (pair_of place c (unicode_of rest)) (Ok (Char c 5))
+
+-- what a backslash and this byte stand for
+abbrev pub escaped_byte : ℕ → Option ℕ
+escaped_byte x =
+    cond (x == 34 || x == 39 || x == 92 || x == 47) (Some x)
+    (cond (x == 98) (Some 8)
+    (cond (x == 102) (Some 12)
+    (cond (x == 110) (Some 10)
+    (cond (x == 114) (Some 13)
+    (cond (x == 116) (Some 9)
+    None)))))
+
+abbrev pub short_escape : ℕ → Option ℕ → Result Part JsonFault
+short_escape place None = Err (BadEscape place)
+short_escape place (Some c) = Ok (Char c 1)
+
+-- the escape whose backslash stands before these bytes
+abbrev pub escape : ℕ → List ℕ → Result Part JsonFault
+escape place [] = Err (BadEscape place)
+escape place (x ∷ rest) = cond (x == 117) (unicode_escape place (hex_of rest) (drop 4 rest)) (short_escape place (escaped_byte x))
+
+-- the character that begins with x: as many bytes as x announces, which have to be UTF-8
+abbrev pub character : ℕ → ℕ → List ℕ → Result Part JsonFault
+character place x rest =
+    let more = take (continuation_len x) rest in
+    cond (is_utf8 (x ∷ more)) (Ok (Same (length more))) (Err (BadUtf8 place))
+
+-- the part that begins with x
+abbrev pub part : ℕ → ℕ → List ℕ → Result Part JsonFault
+part place x rest = cond (x == 92) (escape place rest) (character place x rest)
+
+-- what a part at the front of these bytes stands for
+abbrev pub text_in : Part → List ℕ → List ℕ
+text_in (Same more) bytes = take (more + 1) bytes
+text_in (Char c more) bytes = encode_utf8 c
+
+-- how many bytes a part has after the first
+abbrev pub more_in : Part → ℕ
+more_in (Same more) = more
+more_in (Char c more) = more
+
+abbrev pub followed_by : List ℕ → Result (List ℕ) JsonFault → Result (List ℕ) JsonFault
+followed_by text (Ok more) = Ok (text ++ more)
+followed_by text (Err fault) = Err fault
+
+abbrev pub after_part : Result Part JsonFault → List ℕ → (ℕ → Result (List ℕ) JsonFault) → Result (List ℕ) JsonFault
+after_part (Ok p) bytes go = followed_by (text_in p bytes) (go (more_in p))
+after_part (Err fault) bytes go = Err fault
+
+-- what bytes from a place on stand for once the first so many are passed over, or their first fault
+abbrev pub text_after : ℕ → ℕ → List ℕ → Result (List ℕ) JsonFault
+text_after k place [] = Ok []
+text_after (suc k) place (x ∷ rest) = text_after k (place + 1) rest
+text_after zero place (x ∷ rest) = after_part (part place x rest) (x ∷ rest) (λ k. text_after k (place + 1) rest)
+
+-- what the bytes of a string whose quote stands at a place stand for, or their first fault
+unfoldable pub text_of : ℕ → List ℕ → Result (List ℕ) JsonFault
+text_of place raw = text_after 0 (place + 1) raw

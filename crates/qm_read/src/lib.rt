@@ -1,0 +1,25 @@
+//! JSON values read from their text, or the first fault of the text (RFC 8259).
+#![tactic(auto)]
+
+pub mod fault;
+mod intake;
+mod lexer;
+mod literals;
+mod reader;
+mod reading;
+mod stack;
+mod strings;
+pub mod taken;
+mod token;
+
+pub use fault::JsonFault;
+pub use reading::{
+    each_fault_is_the_first, each_value_is_clean, each_value_is_spelled, memory_is_no_fault, read,
+};
+pub use taken::Taken;
+
+/// How many arrays and objects may stand one in another.
+pub const DEPTH: usize = 128;
+
+#[cfg(test)]
+mod tests;

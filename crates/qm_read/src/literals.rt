@@ -1,0 +1,150 @@
+ghost use Rattle.std.specs.Prelude.{◌≡◌, ◌+◌, ◌&&◌, ◌||◌, nat_lt, ◌==◌, ◌≤◌, true, false, length, IfSome, IfNone};
+ghost use Rattle.std.specs.Str.Parse.{signed_digits_value};
+ghost use Rattle.std.specs.Char.{is_ascii_digit};
+ghost use Rattle.std.specs.List.{list_all};
+ghost use Rattle.qm_json.specs.Numbers.{digits_len as length_of_digits, is_digits as digits, is_whole_part as whole_part, after_sign as without_sign, is_exponent as exponent, is_fraction as fraction, after_minus as without_minus, is_unsigned_literal as unsigned_literal, is_literal as literal, is_in_whole_range as in_whole_range, whole_of as whole};
+
+fn digits_len(text: &[u8]) -> usize
+    ensures value { result ≡ length_of_digits text.now }
+    ensures within { result ≤ length text.now }
+{
+    let mut count = 0;
+    while count < text.len() && text[count].is_ascii_digit() {
+        count += 1;
+    }
+    count
+}
+
+fn are_digits(text: &[u8]) -> bool
+    ensures { result ≡ list_all is_ascii_digit text.now }
+{
+    text.iter().all(|byte| (*byte).is_ascii_digit())
+}
+
+fn is_digits(text: &[u8]) -> bool
+    ensures { result ≡ digits text.now }
+{
+    text.len() > 0 && are_digits(text)
+}
+
+fn is_whole_part(text: &[u8]) -> bool
+    ensures { result ≡ whole_part text.now }
+{
+    match text {
+        [] => false,
+        [first, rest @ ..] => is_digits(text) && (*first > b'0' || rest.len() == 0),
+    }
+}
+
+/// The text without a sign at its front.
+fn after_sign(text: &[u8]) -> &[u8]
+    ensures { result.now ≡ without_sign text.now }
+{
+    match text {
+        [] => text,
+        [first, rest @ ..] => {
+            if *first == b'+' || *first == b'-' {
+                rest
+            } else {
+                text
+            }
+        }
+    }
+}
+
+/// Whether the text is empty or an exponent.
+fn is_exponent(text: &[u8]) -> bool
+    ensures { result ≡ exponent text.now }
+{
+    match text {
+        [] => true,
+        [first, rest @ ..] => (*first == b'e' || *first == b'E') && is_digits(after_sign(rest)),
+    }
+}
+
+/// Whether the text is empty, a fraction, an exponent or both.
+fn is_fraction(text: &[u8]) -> bool
+    ensures { result ≡ fraction text.now }
+{
+    match text {
+        [] => true,
+        [first, rest @ ..] => {
+            if *first == b'.' {
+                let count = digits_len(rest);
+                count > 0 && is_exponent(&rest[count..])
+            } else {
+                is_exponent(text)
+            }
+        }
+    }
+}
+
+/// The text without a minus at its front.
+fn after_minus(text: &[u8]) -> &[u8]
+    ensures { result.now ≡ without_minus text.now }
+{
+    match text {
+        [] => text,
+        [first, rest @ ..] => {
+            if *first == b'-' {
+                rest
+            } else {
+                text
+            }
+        }
+    }
+}
+
+fn is_unsigned_literal(text: &[u8]) -> bool
+    ensures { result ≡ unsigned_literal text.now }
+{
+    let count = digits_len(text);
+    is_whole_part(&text[..count]) && is_fraction(&text[count..])
+}
+
+/// Whether the text is the literal of a number (RFC 8259, section 6).
+pub fn is_literal(text: &[u8]) -> bool
+    ensures { result ≡ literal text.now }
+{
+    is_unsigned_literal(after_minus(text))
+}
+
+/// The number that a sign and digits write, which 128 bits hold.
+fn parsed(text: &[u8]) -> Option<i128>
+    requires { whole_part (without_minus text.now) ≡ true }
+    ensures some { IfSome result (λ n. n ≡ signed_digits_value 10 text.now) }
+    ensures none { IfNone result (in_whole_range (signed_digits_value 10 text.now) ≡ false) }
+{
+    match str::from_utf8(text) {
+        Ok(text) => match text.parse::<i128>() {
+            Ok(number) => Some(number),
+            Err(_) => None,
+        },
+        Err(_) => None,
+    }
+}
+
+fn is_in_whole_range(number: i128) -> bool
+    ensures { result ≡ in_whole_range number }
+{
+    -9_223_372_036_854_775_808 <= number && number < 18_446_744_073_709_551_616
+}
+
+/// The whole number of a literal, where it is kept as one.
+pub fn whole_of(text: &[u8]) -> Option<i128>
+    ensures { result ≡ whole text.now }
+{
+    if !is_whole_part(after_minus(text)) {
+        return None;
+    }
+    match parsed(text) {
+        Some(number) => {
+            if is_in_whole_range(number) {
+                Some(number)
+            } else {
+                None
+            }
+        }
+        None => None,
+    }
+}

@@ -1,0 +1,292 @@
+ghost use Rattle.std.specs.Prelude.{◌≡◌, List, OnOk, ◌∷◌, IfOk};
+ghost use Rattle.qm_read.specs.Faults.{whole};
+ghost use Rattle.qm_read.specs.Feeding.{Steps};
+ghost use Rattle.qm_read.specs.Steps.{begun, step, takes_value as of_value, takes_name as of_name, given, after_value as next_after, ends_array as array_end, ends_object as object_end, value_step, open_step, name_step, after_comma as comma_then, left};
+
+use crate::stack::{Expect, Open};
+use crate::token::Token;
+use crate::{DEPTH, JsonFault};
+use qm_base::{NoMemory, Text};
+use qm_json::{Json, Member, has_member};
+use sqlite_items::Items;
+use std::alloc::Global;
+use std::marker::Model;
+use std::mem;
+
+/// Reads a value from tokens that come one by one.
+#[derive(Drop)]
+pub struct Reader {
+    alloc: Global,
+    current: Open,
+    outer: Items<Open>,
+    expect: Expect,
+}
+
+impl Model for Reader {
+    ghost use Rattle.std.specs.Prelude.{reverse, ◌∷◌};
+    ghost use Rattle.qm_read.specs.Steps.{State};
+    ghost use Rattle.qm_json.specs.contracts.value.Json as j;
+    ghost use Rattle.qm_json.specs.contracts.value.Member as m;
+    ghost use Rattle.std.specs.Coded.{codes};
+
+    ghost Value = { State };
+
+    ghost coded = { Prim.hlevel (codes, j.the_row.coded, m.the_row.coded) };
+
+    ghost view = { λ r. record { stack = r.current ∷ reverse r.outer; expect = r.expect } };
+}
+
+fn takes_value(expect: Expect) -> bool
+    ensures { result ≡ of_value expect }
+{
+    match expect {
+        Expect::Value | Expect::ValueOrEnd => true,
+        Expect::Name | Expect::NameOrEnd | Expect::Colon | Expect::CommaOrEnd | Expect::End =>
+            false,
+    }
+}
+
+fn takes_name(expect: Expect) -> bool
+    ensures { result ≡ of_name expect }
+{
+    match expect {
+        Expect::Name | Expect::NameOrEnd => true,
+        Expect::Value | Expect::ValueOrEnd | Expect::Colon | Expect::CommaOrEnd | Expect::End =>
+            false,
+    }
+}
+
+fn after_value(top: &Open) -> Expect
+    ensures { result ≡ next_after top.now }
+{
+    match top {
+        Open::Top | Open::Whole(_) => Expect::End,
+        Open::Arr(_) | Open::Obj(_, _) => Expect::CommaOrEnd,
+    }
+}
+
+/// Puts a value into what it stands in.
+fn give(alloc: Global, top: &mut Open, value: Json) -> Result<(), NoMemory>
+    ensures { OnOk result (top.new ≡ given top.old value) }
+{
+    match top {
+        Open::Arr(items) => match items.push(value) {
+            Ok(()) => Ok(()),
+            Err(_) => Err(NoMemory),
+        },
+        Open::Obj(members, name) => {
+            let name = mem::replace(name, Text::new(alloc));
+            match members.push(Member { name, value }) {
+                Ok(()) => Ok(()),
+                Err(_) => Err(NoMemory),
+            }
+        }
+        Open::Top | Open::Whole(_) => {
+            *top = Open::Whole(value);
+            Ok(())
+        }
+    }
+}
+
+fn after_comma(top: &Open) -> Expect
+    ensures { (outer : List Open) → result ≡ comma_then (top.now ∷ outer) }
+{
+    match top {
+        Open::Obj(_, _) => Expect::Name,
+        Open::Top | Open::Arr(_) | Open::Whole(_) => Expect::Value,
+    }
+}
+
+fn ends_array(expect: Expect) -> bool
+    ensures { result ≡ array_end expect }
+{
+    match expect {
+        Expect::ValueOrEnd | Expect::CommaOrEnd => true,
+        Expect::Value | Expect::Name | Expect::NameOrEnd | Expect::Colon | Expect::End => false,
+    }
+}
+
+fn ends_object(expect: Expect) -> bool
+    ensures { result ≡ object_end expect }
+{
+    match expect {
+        Expect::NameOrEnd | Expect::CommaOrEnd => true,
+        Expect::Value | Expect::Name | Expect::ValueOrEnd | Expect::Colon | Expect::End => false,
+    }
+}
+
+impl Reader {
+    pub fn new(alloc: Global) -> Reader
+        ensures { result ≡ begun }
+    {
+        Reader {
+            alloc,
+            current: Open::Top,
+            outer: Items::new(alloc),
+            expect: Expect::Value,
+        }
+    }
+
+    fn value(&mut self, value: Json, place: u64) -> Result<(), JsonFault>
+        ensures { Steps (value_step self.old value place) result self.new }
+    {
+        if !takes_value(self.expect) {
+            return Err(JsonFault::Expected(place));
+        }
+        self.expect = after_value(&self.current);
+        match give(self.alloc, &mut self.current, value) {
+            Ok(()) => Ok(()),
+            Err(NoMemory) => Err(JsonFault::Memory),
+        }
+    }
+
+    /// Puts a value that a closer ended into what was open before it.
+    fn leave(&mut self, value: Json, place: u64) -> Result<(), JsonFault>
+        ensures { Steps (left self.old.stack value place) result self.new }
+    {
+        let Some(outer) = self.outer.pop() else {
+            return Err(JsonFault::Expected(place));
+        };
+        self.current = outer;
+        self.expect = after_value(&self.current);
+        match give(self.alloc, &mut self.current, value) {
+            Ok(()) => Ok(()),
+            Err(NoMemory) => Err(JsonFault::Memory),
+        }
+    }
+
+    fn open(&mut self, top: Open, next: Expect, place: u64) -> Result<(), JsonFault>
+        ensures { Steps (open_step self.old top next place) result self.new }
+    {
+        if !takes_value(self.expect) || self.outer.len() >= DEPTH {
+            return Err(JsonFault::Expected(place));
+        }
+        let outer = mem::replace(&mut self.current, top);
+        match self.outer.push(outer) {
+            Ok(()) => {
+                self.expect = next;
+                Ok(())
+            }
+            Err(_) => Err(JsonFault::Memory),
+        }
+    }
+
+    fn name(&mut self, text: Text, place: u64) -> Result<(), JsonFault>
+        ensures { Steps (name_step self.old.stack text place) result self.new }
+    {
+        match &mut self.current {
+            Open::Obj(members, name) => {
+                if has_member(members.as_slice(), text.as_slice()) {
+                    return Err(JsonFault::Duplicate(place));
+                }
+                *name = text;
+                self.expect = Expect::Colon;
+                Ok(())
+            }
+            Open::Top | Open::Arr(_) | Open::Whole(_) => Err(JsonFault::Expected(place)),
+        }
+    }
+
+    fn close_array(&mut self, place: u64) -> Result<(), JsonFault>
+        ensures { Steps (step self.old Token.CloseArray place) result self.new }
+    {
+        if !ends_array(self.expect) {
+            return Err(JsonFault::Expected(place));
+        }
+        match mem::replace(&mut self.current, Open::Top) {
+            Open::Arr(items) => self.leave(Json::Arr(items), place),
+            Open::Top | Open::Obj(_, _) | Open::Whole(_) => Err(JsonFault::Expected(place)),
+        }
+    }
+
+    fn close_object(&mut self, place: u64) -> Result<(), JsonFault>
+        ensures { Steps (step self.old Token.CloseObject place) result self.new }
+    {
+        if !ends_object(self.expect) {
+            return Err(JsonFault::Expected(place));
+        }
+        match mem::replace(&mut self.current, Open::Top) {
+            Open::Obj(members, _) => self.leave(Json::Obj(members), place),
+            Open::Top | Open::Arr(_) | Open::Whole(_) => Err(JsonFault::Expected(place)),
+        }
+    }
+
+    fn comma(&mut self, place: u64) -> Result<(), JsonFault>
+        ensures { Steps (step self.old Token.Comma place) result self.new }
+    {
+        match self.expect {
+            Expect::CommaOrEnd => {
+                self.expect = after_comma(&self.current);
+                Ok(())
+            }
+            Expect::Value
+            | Expect::ValueOrEnd
+            | Expect::Name
+            | Expect::NameOrEnd
+            | Expect::Colon
+            | Expect::End => Err(JsonFault::Expected(place)),
+        }
+    }
+
+    fn colon(&mut self, place: u64) -> Result<(), JsonFault>
+        ensures { Steps (step self.old Token.Colon place) result self.new }
+    {
+        match self.expect {
+            Expect::Colon => {
+                self.expect = Expect::Value;
+                Ok(())
+            }
+            Expect::Value
+            | Expect::ValueOrEnd
+            | Expect::Name
+            | Expect::NameOrEnd
+            | Expect::CommaOrEnd
+            | Expect::End => Err(JsonFault::Expected(place)),
+        }
+    }
+
+    /// Takes the next token.
+    pub fn push(&mut self, token: Token, place: u64) -> Result<(), JsonFault>
+        ensures { Steps (step self.old token place) result self.new }
+    {
+        match token {
+            Token::Null => self.value(Json::Null, place),
+            Token::Bool(b) => self.value(Json::Bool(b), place),
+            Token::Int(n) => self.value(Json::Int(n), place),
+            Token::Num(text) => self.value(Json::Num(text), place),
+            Token::Str(text) => {
+                if takes_name(self.expect) {
+                    self.name(text, place)
+                } else {
+                    self.value(Json::Str(text), place)
+                }
+            }
+            Token::OpenArray => self.open(
+                Open::Arr(Items::new(self.alloc)),
+                Expect::ValueOrEnd,
+                place,
+            ),
+            Token::OpenObject => self.open(
+                Open::Obj(Items::new(self.alloc), Text::new(self.alloc)),
+                Expect::NameOrEnd,
+                place,
+            ),
+            Token::CloseArray => self.close_array(place),
+            Token::CloseObject => self.close_object(place),
+            Token::Comma => self.comma(place),
+            Token::Colon => self.colon(place),
+            Token::Bad(fault) => Err(fault),
+        }
+    }
+
+    /// The value, if the tokens so far are those of one.
+    pub fn finish(self, length: u64) -> Result<Json, JsonFault>
+        ensures { result ≡ whole self.stack length }
+    {
+        let Reader { current, .. } = self;
+        match current {
+            Open::Whole(value) => Ok(value),
+            Open::Top | Open::Arr(_) | Open::Obj(_, _) => Err(JsonFault::Expected(length)),
+        }
+    }
+}

@@ -1,0 +1,49 @@
+ghost use Rattle.std.specs.Prelude.{ℕ, List, ◌↔◌, ◌≡◌, ◌≢◌, length, IfOk, Ok, Err};
+ghost use Rattle.qm_json.specs.Cleanness.{IsClean};
+ghost use Rattle.qm_read.specs.Faults.{reading_of};
+ghost use Rattle.qm_read.specs.Texts.{Spells};
+ghost use Rattle.qm_read.specs.Tokens.{tokens_of};
+ghost use Rattle.qm_read.specs.Viable.{FirstFault};
+
+use crate::JsonFault;
+use crate::intake::Intake;
+use qm_json::Json;
+use std::alloc::Global;
+
+/// The value that a text spells, with white space round it (RFC 8259, section 2), or the first
+/// fault of the text: each token is looked at from the left, first by itself, then whether it may
+/// stand there, then whether it is a name that the object has already.
+pub fn read(alloc: Global, text: &[u8]) -> Result<Json, JsonFault>
+    ensures value { result ≢ Err JsonFault.Memory → result ≡ reading_of text.now }
+    ensures clean { IfOk result IsClean }
+{
+    let mut intake = Intake::new(alloc);
+    for (i, byte) in text.iter().enumerate() {
+        match intake.push(*byte, i as u64) {
+            Ok(()) => {}
+            Err(fault) => return Err(fault),
+        }
+    }
+    intake.finish(text.len() as u64)
+}
+
+/// A text is read as a value exactly where it spells it.
+pub fn each_value_is_spelled()
+    ensures { (text : List ℕ) (value : Json) → (reading_of text ≡ Ok value) ↔ Spells text value }
+{}
+
+/// A text is refused with its first fault: what stands before it begins a value, and with it
+/// nothing does.
+pub fn each_fault_is_the_first()
+    ensures { (text : List ℕ) (fault : JsonFault) → reading_of text ≡ Err fault → FirstFault (tokens_of text) (length text) fault }
+{}
+
+/// What a text is read as is clean.
+pub fn each_value_is_clean()
+    ensures { (text : List ℕ) (value : Json) → reading_of text ≡ Ok value → IsClean value }
+{}
+
+/// Want of memory is no fault of a text.
+pub fn memory_is_no_fault()
+    ensures { (text : List ℕ) → reading_of text ≢ Err JsonFault.Memory }
+{}

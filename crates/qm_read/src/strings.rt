@@ -1,0 +1,290 @@
+ghost use Rattle.std.specs.Prelude.{◌≡◌, ◌≢◌, ◌+◌, ◌<◌, ◌≤◌, ◌++◌, ◌^◌, ◌&&◌, length, drop, slice_index, IsTrue, IfOk, OnOk, Ok, Err};
+ghost use Rattle.std.specs.Char.{digit_value as value_of_digit, InScalarRange};
+ghost use Rattle.std.specs.Char.Utf16.{is_high_surrogate as is_high, is_low_surrogate as is_low};
+ghost use Rattle.std.specs.Str.{continuation_len as continuation, is_utf8 as utf8};
+ghost use Rattle.qm_read.specs.Strings.{is_hex as of_hex, hex_of as hex, unicode_of as unicode, pair_of as pair, unicode_escape as unicode_part, escaped_byte as byte_of, escape as escape_part, character as character_part, part as part_of, text_in, more_in, text_of as text};
+
+use crate::JsonFault;
+use qm_base::{NoMemory, Text};
+use std::alloc::Global;
+
+/// A part of a string: bytes that stand for themselves, or an escape and its character; with how
+/// many bytes it has after the first.
+#[derive(Clone, Copy, Drop)]
+pub enum Part {
+    Same(usize),
+    Char(char, usize),
+}
+
+fn digit_value(byte: u8) -> u16
+    ensures { result ≡ value_of_digit byte }
+{
+    let code = byte as u16;
+    if code < 48 {
+        36
+    } else if code < 58 {
+        code - 48
+    } else if code < 65 {
+        36
+    } else if code < 91 {
+        code - 55
+    } else if code < 97 {
+        36
+    } else if code < 123 {
+        code - 87
+    } else {
+        36
+    }
+}
+
+fn is_hex(byte: u8) -> bool
+    ensures value { result ≡ of_hex byte }
+    ensures small { IsTrue result → value_of_digit byte < 16 }
+{
+    digit_value(byte) < 16
+}
+
+fn are_hex(a: u8, b: u8, c: u8, d: u8) -> bool
+    ensures value { result ≡ (of_hex a && of_hex b && of_hex c && of_hex d) }
+    ensures first { IsTrue result → value_of_digit a < 16 }
+    ensures second { IsTrue result → value_of_digit b < 16 }
+    ensures third { IsTrue result → value_of_digit c < 16 }
+    ensures fourth { IsTrue result → value_of_digit d < 16 }
+{
+    is_hex(a) && is_hex(b) && is_hex(c) && is_hex(d)
+}
+
+fn hex_of(text: &[u8]) -> Option<u16>
+    ensures { result ≡ hex text.now }
+{
+    match text {
+        [a, b, c, d, ..] => {
+            if are_hex(*a, *b, *c, *d) {
+                let high = digit_value(*a) * 16 + digit_value(*b);
+                Some((high * 16 + digit_value(*c)) * 16 + digit_value(*d))
+            } else {
+                None
+            }
+        }
+        _ => None,
+    }
+}
+
+fn unicode_of(text: &[u8]) -> Option<u16>
+    ensures { result ≡ unicode text.now }
+{
+    match text {
+        [x, y, rest @ ..] => {
+            if *x == b'\\' && *y == b'u' {
+                hex_of(rest)
+            } else {
+                None
+            }
+        }
+        _ => None,
+    }
+}
+
+fn is_high_surrogate(unit: u16) -> bool
+    ensures { result ≡ is_high unit }
+{
+    0xD800 <= unit && unit < 0xDC00
+}
+
+fn is_low_surrogate(unit: u16) -> bool
+    ensures { result ≡ is_low unit }
+{
+    0xDC00 <= unit && unit < 0xE000
+}
+
+/// The part of an escape whose number is no surrogate's.
+fn escaped_char(code: u32, more: usize) -> Part
+    requires { InScalarRange code }
+    ensures { result ≡ Part.Char code more }
+{
+    match char::from_u32(code) {
+        Some(c) => Part::Char(c, more),
+        None => Part::Same(0),
+    }
+}
+
+/// The part of two surrogates, the second of which follows at once.
+fn pair_of(high: u16, low: Option<u16>, place: u64) -> Result<Part, JsonFault>
+    ensures { result ≡ pair place high low }
+{
+    match low {
+        None => Err(JsonFault::BadEscape(place)),
+        Some(low) => {
+            if is_high_surrogate(high) && is_low_surrogate(low) {
+                let code = 0x1_0000 + (high as u32 - 0xD800) * 0x400 + (low as u32 - 0xDC00);
+                Ok(escaped_char(code, 11))
+            } else {
+                Err(JsonFault::BadEscape(place))
+            }
+        }
+    }
+}
+
+/// The part of an escape `\uXXXX` by its number and what follows it.
+fn unicode_escape(code: Option<u16>, rest: &[u8], place: u64) -> Result<Part, JsonFault>
+    ensures { result ≡ unicode_part place code rest.now }
+{
+    match code {
+        None => Err(JsonFault::BadEscape(place)),
+        Some(c) => {
+            if is_high_surrogate(c) || is_low_surrogate(c) {
+                pair_of(c, unicode_of(rest), place)
+            } else {
+                Ok(escaped_char(c as u32, 5))
+            }
+        }
+    }
+}
+
+/// What a backslash and this byte stand for.
+fn escaped_byte(byte: u8) -> Option<u8>
+    ensures { result ≡ byte_of byte }
+{
+    if byte == b'"' || byte == b'\'' || byte == b'\\' || byte == b'/' {
+        Some(byte)
+    } else if byte == b'b' {
+        Some(8)
+    } else if byte == b'f' {
+        Some(12)
+    } else if byte == b'n' {
+        Some(10)
+    } else if byte == b'r' {
+        Some(13)
+    } else if byte == b't' {
+        Some(9)
+    } else {
+        None
+    }
+}
+
+/// What stands after so many bytes.
+fn past(text: &[u8], count: usize) -> &[u8]
+    ensures { result.now ≡ drop count text.now }
+{
+    if count < text.len() {
+        &text[count..]
+    } else {
+        &[]
+    }
+}
+
+/// The part whose backslash stands before these bytes.
+fn escape(rest: &[u8], place: u64) -> Result<Part, JsonFault>
+    ensures { result ≡ escape_part place rest.now }
+{
+    match rest {
+        [] => Err(JsonFault::BadEscape(place)),
+        [x, rest @ ..] => {
+            if *x == b'u' {
+                unicode_escape(hex_of(rest), past(rest, 4), place)
+            } else {
+                match escaped_byte(*x) {
+                    Some(c) => Ok(Part::Char(c as char, 1)),
+                    None => Err(JsonFault::BadEscape(place)),
+                }
+            }
+        }
+    }
+}
+
+fn continuation_len(byte: u8) -> usize
+    ensures value { result ≡ continuation byte }
+    ensures small { result ≤ 3 }
+{
+    if byte < 128 {
+        0
+    } else if byte < 224 {
+        1
+    } else if byte < 240 {
+        2
+    } else {
+        3
+    }
+}
+
+fn is_utf8(bytes: &[u8]) -> bool
+    ensures { result ≡ utf8 bytes.now }
+{
+    match str::from_utf8(bytes) {
+        Ok(_) => true,
+        Err(_) => false,
+    }
+}
+
+/// The part that is the character at the front.
+fn character(bytes: &[u8], place: u64) -> Result<Part, JsonFault>
+    requires { 0 < length bytes.now }
+    ensures { result ≡ character_part place (slice_index bytes.now 0) (drop 1 bytes.now) }
+{
+    let first = bytes[0];
+    if first < 0x80 {
+        return Ok(Part::Same(0));
+    }
+    let more = continuation_len(first).min(bytes.len() - 1);
+    if is_utf8(&bytes[..more + 1]) {
+        Ok(Part::Same(more))
+    } else {
+        Err(JsonFault::BadUtf8(place))
+    }
+}
+
+/// The part at the front of these bytes.
+fn first_part(bytes: &[u8], place: u64) -> Result<Part, JsonFault>
+    requires { 0 < length bytes.now }
+    ensures value { result ≡ part_of place (slice_index bytes.now 0) (drop 1 bytes.now) }
+    ensures within { IfOk result (λ p. more_in p < length bytes.now) }
+{
+    if bytes[0] == b'\\' {
+        escape(past(bytes, 1), place)
+    } else {
+        character(bytes, place)
+    }
+}
+
+/// Appends what a part at the front of these bytes stands for.
+fn append(text: &mut Text, bytes: &[u8], part: Part) -> Result<(), NoMemory>
+    requires { more_in part < length bytes.now }
+    ensures { OnOk result (text.new ≡ text.old ++ text_in part bytes.now) }
+{
+    match part {
+        Part::Same(more) => text.extend(&bytes[..more + 1]),
+        Part::Char(c, _) => {
+            let mut buffer = [0u8; 4];
+            text.extend(c.encode_utf8(&mut buffer).as_bytes())
+        }
+    }
+}
+
+fn length_after_first(part: Part) -> usize
+    ensures { result ≡ more_in part }
+{
+    match part {
+        Part::Same(more) => more,
+        Part::Char(_, more) => more,
+    }
+}
+
+/// What the bytes of a string stand for, whose quote stands at the start.
+pub fn text_of(alloc: Global, raw: &[u8], start: u64) -> Result<Text, JsonFault>
+    requires { start + 1 + length raw.now < 2 ^ 64 }
+    ensures { result ≢ Err JsonFault.Memory → result ≡ text start raw.now }
+{
+    let mut out = Text::new(alloc);
+    let mut i = 0;
+    while i < raw.len() {
+        let rest = past(raw, i);
+        match first_part(rest, start + 1 + i as u64) {
+            Ok(part) => match append(&mut out, rest, part) {
+                Ok(()) => i = i + 1 + length_after_first(part),
+                Err(NoMemory) => return Err(JsonFault::Memory),
+            },
+            Err(fault) => return Err(fault),
+        }
+    }
+    Ok(out)
+}

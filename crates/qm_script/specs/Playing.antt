@@ -1,0 +1,108 @@
+-- What a script plays (this project's own rule).
+use Rattle.std.specs.Prelude.{◌≡◌, ℕ, ◌+◌, ◌-◌, ◌==◌, nat_lt, cond, List, [], ◌∷◌, ◌++◌, length, map, slice_get, unwrap_or, Option, Some, None, Result, Ok, Err}
+use Rattle.std.proofs.Math.ListN.{set}
+use Rattle.qm_core.specs.Legal.{past_of}
+use Rattle.qm_core.specs.Next.{refusal_of, entry_of, session_refusal}
+use Rattle.qm_core.specs.Next as step
+use Rattle.qm_core.specs.Standing.{sessions_of, admitted_of, running_of, named_of}
+use Rattle.qm_core.specs.Texts.{text_of}
+use Rattle.qm_core.specs.declared.entries.Cause.TheVariants as cause
+use Rattle.qm_core.specs.declared.entries.Entry.{Entry}
+use Rattle.qm_core.specs.declared.entries.StepFault.{StepFault}
+use Rattle.qm_core.specs.declared.inputs.Input.{Input}
+use Rattle.qm_core.specs.declared.requests.Started.{Started}
+use Rattle.qm_script.specs.Endings.{stop_of, closing_of}
+use Rattle.qm_script.specs.Fed.{fed_inputs_of}
+use Rattle.qm_script.specs.Lines.{lines_of}
+use Rattle.qm_script.specs.Orders.{order_of, fed_by}
+use Rattle.qm_script.specs.declared.TheConstants.{MOST_LINES}
+use Rattle.qm_script.specs.declared.endings.Refused.{Refused}
+use Rattle.qm_script.specs.declared.endings.StepWord.TheVariants as word
+use Rattle.qm_script.specs.declared.endings.Stop.{Stop}
+use Rattle.qm_script.specs.declared.endings.Stop.TheVariants.{BadLine, Step}
+use Rattle.qm_script.specs.declared.orders.Order.{Order}
+use Rattle.qm_script.specs.declared.orders.Order.TheVariants as order
+
+-- what was played: the journal, and the bytes that were fed to each session, the first first
+pub record Played : Type 0 where
+  pub journal : List Entry
+  pub fed : List (List ℕ)
+
+-- the bytes that were fed to a session
+abbrev pub fed_to : ℕ → List (List ℕ) → List ℕ
+fed_to s fed = unwrap_or (slice_get fed (s - 1)) []
+
+-- the refusal of a step, or what is played with its entry
+abbrev pub stepped : Played → Option StepFault → Entry → Result Played Stop
+stepped played None e = Ok record { journal = played.journal ++ e ∷ []; fed = played.fed }
+stepped played (Some fault) e = Err (stop_of fault)
+
+abbrev pub core_step : ℕ → Played → step.Step → Result Played Stop
+core_step entries played step = stepped played (refusal_of entries (past_of played.journal) step) (entry_of (past_of played.journal) step)
+
+-- an `open`, of which there is one
+abbrev pub open_step : ℕ → Played → Result Played Stop
+open_step entries played =
+    cond (length (sessions_of (past_of played.journal)) == 0)
+    (core_step entries record { journal = played.journal; fed = played.fed ++ [] ∷ [] } step.Open)
+    (Err BadLine)
+
+-- bytes for a session that was opened and not closed
+abbrev pub fed_step : Played → ℕ → List ℕ → Option StepFault → Result Played Stop
+fed_step played s bytes None = Ok record { journal = played.journal; fed = set played.fed (s - 1) (fed_to s played.fed ++ bytes) }
+fed_step played s bytes (Some fault) = Err (stop_of fault)
+
+-- the next input of a session, if there is one
+abbrev pub input_step : ℕ → Played → ℕ → Option Input → Result Played Stop
+input_step entries played s None = Err (Step word.NoFrame)
+input_step entries played s (Some input) = core_step entries played (step.Admit s input)
+
+abbrev pub admit_step : ℕ → Played → ℕ → Option StepFault → Result Played Stop
+admit_step entries played s None =
+    input_step entries played s (slice_get (fed_inputs_of (fed_to s played.fed)) (admitted_of s (past_of played.journal)))
+admit_step entries played s (Some fault) = Err (stop_of fault)
+
+abbrev pub finish_step : ℕ → Played → ℕ → Option Started → Result Played Stop
+finish_step entries played moment None = Err (Step word.NotRunning)
+finish_step entries played moment (Some request) = core_step entries played (step.Finish request.session request.number moment)
+
+-- what an order does; the line is that of the order
+abbrev pub ordered : ℕ → Played → List ℕ → Option Order → Result Played Stop
+ordered entries played line None = Err BadLine
+ordered entries played line (Some order.Open) = open_step entries played
+ordered entries played line (Some (order.Text s)) = fed_step played s (fed_by line ++ 10 ∷ []) (session_refusal s (past_of played.journal) None)
+ordered entries played line (Some (order.Admit s)) = admit_step entries played s (session_refusal s (past_of played.journal) None)
+ordered entries played line (Some order.Start) = core_step entries played step.Start
+ordered entries played line (Some (order.Finish moment)) = finish_step entries played moment (named_of (running_of (past_of played.journal)))
+ordered entries played line (Some (order.Take s)) = core_step entries played (step.Take s)
+ordered entries played line (Some (order.Eof s)) = core_step entries played (step.End s)
+ordered entries played line (Some (order.DropEnded s)) = core_step entries played (step.Drop s cause.Ended)
+
+-- what the line of this number does
+abbrev pub line_step : ℕ → ℕ → Played → List ℕ → Result Played Stop
+line_step entries n played line = cond (nat_lt MOST_LINES n) (Err BadLine) (ordered entries played line (order_of line))
+
+-- what was played in the end, and the line that was refused, if one was
+pub record Ended : Type 0 where
+  pub played : Played
+  pub refused : Option Refused
+
+abbrev pub after_line : ℕ → Played → Result Played Stop → (Played → Ended) → Ended
+after_line n played (Ok next) go = go next
+after_line n played (Err stop) go = record { played = played; refused = Some record { line = n; stop = stop } }
+
+-- the lines from this number on, up to the first that is refused
+abbrev pub played_from : ℕ → ℕ → Played → List (List ℕ) → Ended
+played_from entries n played [] = record { played = played; refused = None }
+played_from entries n played (line ∷ lines) = after_line n played (line_step entries n played line) (λ next. played_from entries (n + 1) next lines)
+
+abbrev pub nothing_played : Played
+nothing_played = record { journal = []; fed = [] }
+
+-- what a script plays
+abbrev pub played_of : ℕ → List ℕ → Ended
+played_of entries script = played_from entries 1 nothing_played (lines_of script)
+
+-- the transcript: the text of the journal, and the closing line
+abbrev pub transcript_text_of : Ended → List ℕ
+transcript_text_of ended = text_of ended.played.journal ++ closing_of ended.refused (length ended.played.journal)
