@@ -19,9 +19,9 @@ pub fn each_entry_may_follow()
 /// the rest of it.
 pub fn taken_lines_begin_the_transcript()
     ensures begins { (s : ℕ) (journal : List Entry) → IsLegal journal →
-        IsPrefix (taken_of s (past_of journal)) (transcript_of s (past_of journal)) }
+        (let past = past_of journal in IsPrefix (taken_of s past) (transcript_of s past)) }
     ensures whole { (s : ℕ) (journal : List Entry) → IsLegal journal →
-        taken_of s (past_of journal) ++ untaken_of s (past_of journal) ≡ transcript_of s (past_of journal) }
+        (let past = past_of journal in taken_of s past ++ untaken_of s past ≡ transcript_of s past) }
 {}
 
 /// After each step of a monitor its journal is as legal as before.

@@ -44,18 +44,19 @@ fn answer_to(alloc: Global, request: &Request) -> Result<Answer, NoMemory>
 }
 
 impl Monitor {
-    ghost use Rattle.qm_core.specs.Kept.{IsFirstOpen, admit_refusal, room_refusal};
+    ghost use Rattle.qm_core.specs.Kept.{HasPlace, IsFirstOpen, admit_refusal, refusal_in, room_refusal};
     ghost use Rattle.qm_core.specs.declared.entries.StepFault.{StepFault};
 
     #[tactic(auto, using(crate::proofs::KeptSessions::none_waits))]
     fn may_admit(&self, session: u32) -> Result<(), StepFault>
-        ensures fault { result_err result ≡ admit_refusal self.now.limits.entries session (past_of self.now.journal) }
+        ensures fault { result_err result ≡ admit_refusal session self.now }
         ensures open { OnOk result (IsFirstOpen (past_of self.now.journal) session) }
         ensures more { OnOk result (is_ended session (past_of self.now.journal) ≡ false) }
-        ensures below { OnOk result (in_flight_of session (past_of self.now.journal) < bound_of (mode_of session (past_of self.now.journal))) }
+        ensures below { let past = past_of self.now.journal in
+            OnOk result (in_flight_of session past < bound_of (mode_of session past)) }
         ensures idle { OnOk result (waiting_of session (past_of self.now.journal) ≡ []) }
         ensures number { OnOk result (admitted_of session (past_of self.now.journal) + 1 < 2 ^ 64) }
-        ensures room { OnOk result (length (past_of self.now.journal) + 1 + open_count_of (past_of self.now.journal) ≤ self.now.limits.entries) }
+        ensures room { OnOk result (HasPlace self.now) }
     {
         match self.open_session(session) {
             Ok(()) => {}
@@ -77,9 +78,10 @@ impl Monitor {
     /// as its mode allows. `JournalFull`. A refusal leaves the monitor and the offer as they were.
     pub fn admit(&mut self, session: u32, offer: &mut Offer) -> Result<Admitted, StepFault>
         requires { IsSome offer.old }
-        ensures next { IfSome offer.old (λ input. Next self.old (Admit session input) (result_err result) self.new) }
-        ensures value { IfOk result (λ admitted. admitted
-            ≡ record { number = admitted_of session (past_of self.old.journal) + 1; lane = InBand }) }
+        ensures next { IfSome offer.old (λ input.
+            Next self.old (Admit session input) (result_err result) self.new) }
+        ensures value { let number = admitted_of session (past_of self.old.journal) + 1 in
+            IfOk result (λ admitted. admitted ≡ record { number = number; lane = InBand }) }
         ensures spent { OnOk result (offer.new ≡ None) }
         ensures kept { OnErr result (offer.new ≡ offer.old) }
     {
@@ -107,10 +109,11 @@ impl Monitor {
     }
 
     fn may_start(&self) -> Result<Started, StepFault>
-        ensures fault { result_err result ≡ refusal_of self.now.limits.entries (past_of self.now.journal) Start }
+        ensures fault { result_err result ≡ refusal_in self.now Start }
         ensures idle { OnOk result (running_of (past_of self.now.journal) ≡ None) }
-        ensures turn { IfOk result (λ started. named_of (starting_of (past_of self.now.journal)) ≡ Some started) }
-        ensures room { OnOk result (length (past_of self.now.journal) + 1 + open_count_of (past_of self.now.journal) ≤ self.now.limits.entries) }
+        ensures turn { let past = past_of self.now.journal in
+            IfOk result (λ started. named_of (starting_of past) ≡ Some started) }
+        ensures room { OnOk result (HasPlace self.now) }
     {
         if self.running.is_some() {
             return Err(StepFault::Nothing);
@@ -132,7 +135,8 @@ impl Monitor {
     /// the monitor as it was.
     pub fn start(&mut self) -> Result<Started, StepFault>
         ensures next { Next self.old Start (result_err result) self.new }
-        ensures value { IfOk result (λ started. named_of (starting_of (past_of self.old.journal)) ≡ Some started) }
+        ensures value { let past = past_of self.old.journal in
+            IfOk result (λ started. named_of (starting_of past) ≡ Some started) }
     {
         let started = self.may_start()?;
         self.running = self.session.waiting.take();
@@ -145,11 +149,12 @@ impl Monitor {
 
     fn may_finish(&self, session: u32, number: u64) -> Result<&Request, StepFault>
         ensures fault { result_err result ≡ cond (is_running session number (past_of self.now.journal))
-            (room_refusal self.now.limits.entries (past_of self.now.journal)) (Some StepFault.NotRunning) }
+            (room_refusal self.now) (Some StepFault.NotRunning) }
         ensures runs { IfOk result (λ request. running_of (past_of self.now.journal) ≡ Some request.now) }
-        ensures named { IfOk result (λ request. (request.now.session ≡ session) × (request.now.number ≡ number)) }
+        ensures named { IfOk result (λ request.
+            (request.now.session ≡ session) × (request.now.number ≡ number)) }
         ensures first { OnOk result (session ≡ 1) }
-        ensures room { OnOk result (length (past_of self.now.journal) + 1 + open_count_of (past_of self.now.journal) ≤ self.now.limits.entries) }
+        ensures room { OnOk result (HasPlace self.now) }
     {
         let Some(request) = &self.running else {
             return Err(StepFault::NotRunning);
@@ -173,7 +178,8 @@ impl Monitor {
         number: u64,
         moment: u64,
     ) -> Result<(), StepFault>
-        ensures next { result ≢ Err StepFault.Memory → Next self.old (Finish session number moment) (result_err result) self.new }
+        ensures next { result ≢ Err StepFault.Memory →
+            Next self.old (Finish session number moment) (result_err result) self.new }
         ensures memory { result ≡ Err StepFault.Memory → self.new ≡ self.old }
     {
         let request = self.may_finish(session, number)?;
