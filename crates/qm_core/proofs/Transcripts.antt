@@ -1,12 +1,15 @@
 -- What a session is sent: the lines that were handed out begin its transcript.
-use Rattle.std.proofs.Common.{◌≡◌, ℕ, ◌==◌, Bool, true, false, cond, List, [], ◌∷◌, ◌++◌, length, drop, refl, ap, append_assoc, sym, ◌∙◌, subst}
+use Rattle.std.proofs.Common.{◌≡◌, ℕ, ◌==◌, Bool, true, false, cond, List, [], ◌∷◌, ◌++◌, length, drop, refl, ap, append_assoc, sym, ◌∙◌, subst, arith}
 use Rattle.std.proofs.Math.Seq.{drop-append_seam}
-use Rattle.std.proofs.lemmas.Bool.Decides.{Decides-eqb}
+use Rattle.std.proofs.lemmas.Bool.Decides.{nat_tests, Decides-eqb}
+use Rattle.qm_json.specs.Printing.{printed}
+use Rattle.qm_json.specs.declared.value.Json.{Json}
 use Rattle.qm_base.specs.Prefixes.{IsPrefix}
 use Rattle.qm_base.proofs.Prefixes.{empty_prefix, trans_prefix, left_prefix, refl_prefix}
 use Rattle.qm_core.specs.declared.entries.Entry.{Entry}
 use Rattle.qm_core.specs.declared.entries.Entry.TheVariants.{Open, Admit, Start, Done, Take, Eof, Drop}
 use Rattle.qm_core.specs.Legal.{AllFollow}
+use Rattle.qm_core.specs.Standing.{is_open}
 use Rattle.qm_core.specs.Transcript.{transcript_of, taken_of, untaken_of}
 
 -- a list after what it begins with
@@ -43,3 +46,11 @@ taken_first s (Drop t cause ∷ past) legal = taken_first s past legal.1
 -- what was handed out and what was not are the transcript
 pub taken-untaken : (s : ℕ) (past : List Entry) → AllFollow past → taken_of s past ++ untaken_of s past ≡ transcript_of s past
 taken-untaken s past legal = whole_of (taken_of s past) (transcript_of s past) (taken_first s past legal)
+
+open_more : (b : Bool) (part whole : List (List ℕ)) (line : List ℕ) → IsPrefix part whole → drop (length part) (cond b (whole ++ line ∷ []) whole) ≡ cond b (drop (length part) whole ++ line ∷ []) (drop (length part) whole)
+open_more true part whole line p = rest_more part whole (line ∷ []) p
+open_more false part whole line p = refl
+
+-- a reply is untaken after those before it
+pub untaken-done : (s k : ℕ) (reply : Json) (moment : ℕ) (past : List Entry) → AllFollow past → untaken_of s (Done s k reply moment ∷ past) ≡ cond (is_open s past) (untaken_of s past ++ printed reply ∷ []) (untaken_of s past)
+untaken-done s k reply moment past legal = (let yes : (s == s) ≡ true = grind (arith, nat_tests) in rw yes (open_more (is_open s past) (taken_of s past) (transcript_of s past) (printed reply) (taken_first s past legal)))

@@ -6,6 +6,7 @@ pub mod entries;
 pub mod inputs;
 pub mod journal;
 mod judging;
+pub mod laws;
 pub mod lines;
 pub mod monitor;
 pub mod offers;
@@ -21,7 +22,7 @@ pub use journal::EntryList;
 pub use lines::LineList;
 pub use monitor::{Limits, Monitor};
 pub use offers::Offer;
-pub use requests::{Request, Started};
+pub use requests::{Admitted, Request, Started};
 pub use verdicts::{Class, Command, Refusal, Verdict};
 
 /// How many sessions may ever be opened.

@@ -13,6 +13,7 @@ use std::alloc::Global;
 use std::marker::Model;
 
 mod counts;
+mod request_steps;
 mod session_steps;
 
 /// What a monitor may grow to.
@@ -50,7 +51,7 @@ impl Model for Monitor {
 impl Monitor {
     ghost use Rattle.qm_core.specs.declared.TheConstants.{MOST_ENTRIES};
     ghost use Rattle.qm_core.specs.declared.entries.StepFault.{StepFault};
-    ghost use Rattle.qm_core.specs.Kept.{IsFirstOpen, room_refusal};
+    ghost use Rattle.qm_core.specs.Kept.{HasPlace, IsFirstOpen, room_refusal};
 
     /// A monitor with an empty journal, which has its places.
     pub fn new(alloc: Global, limits: Limits) -> Result<Monitor, NoMemory>
@@ -140,8 +141,8 @@ impl Monitor {
     }
 
     fn room(&self) -> Result<(), StepFault>
-        ensures fault { result_err result ≡ room_refusal self.now.limits.entries (past_of self.now.journal) }
-        ensures room { OnOk result (length (past_of self.now.journal) + 1 + open_count_of (past_of self.now.journal) ≤ self.now.limits.entries) }
+        ensures fault { result_err result ≡ room_refusal self.now }
+        ensures room { OnOk result (HasPlace self.now) }
     {
         if self.journal.len() as u64 + 1 + self.open_count() > self.limits.entries {
             return Err(StepFault::JournalFull);
@@ -151,7 +152,8 @@ impl Monitor {
 
     fn open_session(&self, session: u32) -> Result<(), StepFault>
         ensures open { OnOk result (IsFirstOpen (past_of self.now.journal) session) }
-        ensures fault { (others : Option StepFault) → IfErr result (λ fault. Some fault ≡ session_refusal session (past_of self.now.journal) others) }
+        ensures fault { (others : Option StepFault) → IfErr result (λ fault. Some fault
+            ≡ session_refusal session (past_of self.now.journal) others) }
     {
         if !self.is_known(session) {
             return Err(StepFault::NoSession);

@@ -15,13 +15,13 @@ use qm_caps::greeting;
 use std::alloc::Global;
 
 impl Monitor {
-    ghost use Rattle.qm_core.specs.Kept.{IsFirstOpen};
+    ghost use Rattle.qm_core.specs.Kept.{HasPlace, IsFirstOpen, refusal_in};
     ghost use Rattle.qm_core.specs.declared.entries.StepFault.{StepFault};
 
     #[tactic(auto, using(crate::proofs::Journals::nothing_before))]
     fn may_open(&self) -> Result<(), StepFault>
         requires { sessions_of (past_of self.now.journal) ≡ [] }
-        ensures fault { result_err result ≡ refusal_of self.now.limits.entries (past_of self.now.journal) Open }
+        ensures fault { result_err result ≡ refusal_in self.now Open }
         ensures empty { past_of self.now.journal ≡ [] }
         ensures room { OnOk result (2 ≤ self.now.limits.entries) }
     {
@@ -38,9 +38,11 @@ impl Monitor {
     /// A refusal leaves the monitor as it was.
     pub fn open(&mut self, alloc: Global) -> Result<u32, StepFault>
         requires first { sessions_of (past_of self.old.journal) ≡ [] }
-        ensures next { result ≢ Err StepFault.Memory → Next self.old Open (result_err result) self.new }
+        ensures next { result ≢ Err StepFault.Memory →
+            Next self.old Open (result_err result) self.new }
         ensures memory { result ≡ Err StepFault.Memory → self.new ≡ self.old }
-        ensures value { IfOk result (λ number. number ≡ length (sessions_of (past_of self.old.journal)) + 1) }
+        ensures value { let past = past_of self.old.journal in
+            IfOk result (λ number. number ≡ length (sessions_of past) + 1) }
     {
         self.may_open()?;
         let greeting = greeting(alloc)?;
@@ -52,10 +54,10 @@ impl Monitor {
     }
 
     fn may_end(&self, session: u32) -> Result<(), StepFault>
-        ensures fault { result_err result ≡ refusal_of self.now.limits.entries (past_of self.now.journal) (End session) }
+        ensures fault { result_err result ≡ refusal_in self.now (End session) }
         ensures open { OnOk result (IsFirstOpen (past_of self.now.journal) session) }
         ensures more { OnOk result (is_ended session (past_of self.now.journal) ≡ false) }
-        ensures room { OnOk result (length (past_of self.now.journal) + 1 + open_count_of (past_of self.now.journal) ≤ self.now.limits.entries) }
+        ensures room { OnOk result (HasPlace self.now) }
     {
         match self.open_session(session) {
             Ok(()) => {}
@@ -81,10 +83,10 @@ impl Monitor {
     }
 
     fn may_take(&self, session: u32) -> Result<(), StepFault>
-        ensures fault { result_err result ≡ refusal_of self.now.limits.entries (past_of self.now.journal) (Take session) }
+        ensures fault { result_err result ≡ refusal_in self.now (Take session) }
         ensures open { OnOk result (IsFirstOpen (past_of self.now.journal) session) }
         ensures some { OnOk result (0 < length (untaken_of session (past_of self.now.journal))) }
-        ensures room { OnOk result (length (past_of self.now.journal) + 1 + open_count_of (past_of self.now.journal) ≤ self.now.limits.entries) }
+        ensures room { OnOk result (HasPlace self.now) }
     {
         match self.open_session(session) {
             Ok(()) => {}
@@ -116,8 +118,7 @@ impl Monitor {
     fn is_drained(&self) -> bool
         ensures { result ≡ is_drained 1 (past_of self.now.journal) }
     {
-        self.is_known(1)
-            && !self.session.dropped
+        self.session.is_open()
             && self.session.ended
             && self.in_flight() == 0
             && self.session.outbox.len() == 0
@@ -142,7 +143,7 @@ impl Monitor {
     }
 
     fn may_drop(&self, session: u32, cause: Cause) -> Result<(), StepFault>
-        ensures fault { result_err result ≡ refusal_of self.now.limits.entries (past_of self.now.journal) (Drop session cause) }
+        ensures fault { result_err result ≡ refusal_in self.now (Drop session cause) }
         ensures open { OnOk result (IsFirstOpen (past_of self.now.journal) session) }
         ensures holds { OnOk result (Holds (past_of self.now.journal) 1 cause) }
     {
