@@ -1,7 +1,7 @@
 -- The inputs of bytes: there are none of no bytes, and all are clean.
-use Rattle.std.proofs.Common.{◌≡◌, ◌<◌, ℕ, List, [], ◌∷◌, map, length, get_or, Option, Some, None, Result, Ok, Err, refl, sym, ◌∙◌, subst, inl, inr}
-use Rattle.std.specs.List.{slice_get, All}
-use Rattle.std.proofs.lemmas.List.Elements.{All-get_or}
+use Rattle.std.proofs.Common.{◌≡◌, ◌<◌, ℕ, zero, suc, arith, List, [], ◌∷◌, map, length, get_or, Option, Some, None, Result, Ok, Err, refl, sym, ◌∙◌, subst, inl, inr}
+use Rattle.std.specs.List.{slice_get}
+use Rattle.std.proofs.lemmas.List.{length-map}
 use Rattle.std.proofs.lemmas.Option.{slice_get_cases}
 use Rattle.qm_json.specs.Cleanness.{IsClean}
 use Rattle.qm_json.specs.declared.value.Json.{Json}
@@ -35,16 +35,23 @@ clean_frame : (frame : Result (List ℕ) FrameFault) → IsCleanInput (input_of 
 clean_frame (Ok message) = clean_read (reading_of message) (λ value e. read-clean message value e)
 clean_frame (Err fault) = tt
 
-all_clean : (frames : List (Result (List ℕ) FrameFault)) → All IsCleanInput (map input_of (map taken_of frames))
-all_clean [] = tt
-all_clean (frame ∷ frames) = (clean_frame frame, all_clean frames)
+clean_frames : (frames : List (Result (List ℕ) FrameFault)) (place : ℕ) (other : Input) → place < length frames →
+    IsCleanInput (get_or (map input_of (map taken_of frames)) place other)
+clean_frames [] place other within = absurd (omega arith)
+clean_frames (frame ∷ frames) zero other within = clean_frame frame
+clean_frames (frame ∷ frames) (suc place) other within = clean_frames frames place other (omega arith)
 
-clean_at : (inputs : List Input) (place : ℕ) (input : Input) → All IsCleanInput inputs → slice_get inputs place ≡ Some input → IsCleanInput input
-clean_at inputs place input all there = elim (slice_get_cases inputs place).1 [
-  | inl found ↦ ?
-  | inr past ↦ absurd (let e : None ≡ Some input = sym past.1 ∙ there in cc)
-]
+clean_at : (bytes : List ℕ) (place : ℕ) (input : Input) →
+    ((other : Input) × (place < length (fed_inputs_of bytes)) × (slice_get (fed_inputs_of bytes) place ≡ Some other) × (get_or (fed_inputs_of bytes) place other ≡ other)) →
+    slice_get (fed_inputs_of bytes) place ≡ Some input → IsCleanInput input
+clean_at bytes place input found there =
+    let within : place < length (frames_of bytes) = rw (length-map, length-map) at found.1 in
+    let same : found.0 ≡ input = (let e : Some found.0 ≡ Some input = sym found.2 ∙ there in cc) in
+    subst IsCleanInput (found.3 ∙ same) (clean_frames (frames_of bytes) place found.0 within)
 
 -- an input of bytes is clean
 pub fed_clean : (bytes : List ℕ) (place : ℕ) (input : Input) → slice_get (fed_inputs_of bytes) place ≡ Some input → IsCleanInput input
-fed_clean bytes place input there = clean_at (fed_inputs_of bytes) place input (all_clean (frames_of bytes)) there
+fed_clean bytes place input there = elim (slice_get_cases (fed_inputs_of bytes) place).1 [
+  | inl found ↦ clean_at bytes place input found there
+  | inr past ↦ absurd (let e : None ≡ Some input = sym past.1 ∙ there in cc)
+]

@@ -1,4 +1,5 @@
 ghost use Rattle.std.specs.Prelude.{◌≡◌, [], ◌∷◌, ◌++◌, IfOk, IfSome, slice_get};
+ghost use Rattle.std.specs.Option.{option_copied};
 ghost use Rattle.qm_core.specs.Inputs.{IsCleanInput};
 ghost use Rattle.qm_script.specs.Fed.{frame_word_of, text_input_of, input_of, fed_inputs_of};
 
@@ -132,12 +133,19 @@ impl Feeder {
         Ok(Feeder { framer, inputs })
     }
 
+    fn kept(&self, place: u64) -> Option<&Input>
+        ensures { option_copied result ≡ slice_get (fed_inputs_of self.now) place }
+    {
+        self.inputs.get(place as usize)
+    }
+
     /// The input of this place, from 0 on, if the bytes hold so many. It is clean.
+    #[tactic(auto, using(crate::proofs::FedLemmas::fed_clean))]
     pub fn input(&self, place: u64) -> Result<Option<Input>, NoMemory>
         ensures value { IfOk result (λ input. input ≡ slice_get (fed_inputs_of self.now) place) }
         ensures clean { IfOk result (λ input. IfSome input IsCleanInput) }
     {
-        match self.inputs.get(place as usize) {
+        match self.kept(place) {
             Some(input) => match again(input) {
                 Ok(input) => Ok(Some(input)),
                 Err(NoMemory) => Err(NoMemory),

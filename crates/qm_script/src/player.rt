@@ -1,19 +1,21 @@
-ghost use Rattle.std.specs.Prelude.{◌≡◌, ◌≤◌, ◌++◌, ◌∷◌, [], IfOk, Some, None, length};
+ghost use Rattle.std.specs.Prelude.{◌≡◌, ◌≤◌, ◌++◌, ◌∷◌, [], IfOk, IfSome, Some, None, length, slice_get, true};
 ghost use Rattle.qm_core.specs.Legal.{past_of};
 ghost use Rattle.qm_core.specs.Next.{Start, Take, End, Drop, session_refusal};
 ghost use Rattle.qm_core.specs.Next as step;
-ghost use Rattle.qm_core.specs.Standing.{named_of, running_of};
+ghost use Rattle.qm_core.specs.Standing.{admitted_of, named_of, running_of, was_opened};
 ghost use Rattle.qm_core.specs.declared.TheConstants.{MOST_ENTRIES};
 ghost use Rattle.qm_core.specs.declared.entries.Cause.TheVariants as cause;
+ghost use Rattle.qm_core.specs.Inputs.{IsCleanInput};
+ghost use Rattle.qm_script.specs.Fed.{fed_inputs_of};
 ghost use Rattle.qm_script.specs.Endings.{stop_of as stop_of_fault};
 ghost use Rattle.qm_script.specs.Orders.{fed_by as fed_by_of, order_of};
-ghost use Rattle.qm_script.specs.Playing.{nothing_played, core_step, open_step, fed_step, admit_step, finish_step, ordered, line_step};
+ghost use Rattle.qm_script.specs.Playing.{nothing_played, core_step, open_step, fed_step, admit_step, fed_to, finish_step, ordered, line_step};
 
 use crate::endings::{StepWord, Stop};
 use crate::feeder::Feeder;
 use crate::orders::{Order, fed_by, order_of_line};
 use qm_base::NoMemory;
-use qm_core::{Cause, EntryList, Limits, Monitor, Offer, StepFault};
+use qm_core::{Cause, EntryList, Input, Limits, Monitor, Offer, StepFault};
 use std::alloc::Global;
 use std::marker::Model;
 
@@ -120,6 +122,93 @@ impl Player {
                 self.feeder = Some(feeder);
                 Ok(self.stepped())
             }
+            Err(StepFault::Memory) => Err(NoMemory),
+            Err(fault) => Ok(self.refused(stop_of(fault))),
+        }
+    }
+
+    fn text(self, alloc: Global, session: u32, line: &[u8]) -> Result<Turn, NoMemory>
+        requires { 5 ≤ length line.now }
+        ensures { IfOk result (Turns self (fed_step self.played session (fed_by_of line.now ++ 10 ∷ [])
+            (session_refusal session (past_of self.played.journal) None))) }
+    {
+        if !self.monitor.is_known(session) {
+            return Ok(self.refused(Stop::Step(StepWord::NoSession)));
+        }
+        if self.monitor.is_closed(session) {
+            return Ok(self.refused(Stop::Step(StepWord::Closed)));
+        }
+        let Player { monitor, feeder } = self;
+        let Some(feeder) = feeder else { unreachable!() };
+        let feeder = feeder.fed(alloc, fed_by(line))?;
+        let feeder = feeder.fed(alloc, b"\n")?;
+        let player = Player {
+            monitor,
+            feeder: Some(feeder),
+        };
+        Ok(player.stepped())
+    }
+
+    fn next_input(&self, session: u32) -> Result<Option<Input>, NoMemory>
+        requires { was_opened session (past_of self.now.played.journal) ≡ true }
+        ensures value { IfOk result (λ input. input ≡ slice_get (fed_inputs_of (fed_to session self.now.played.fed))
+            (admitted_of session (past_of self.now.played.journal))) }
+        ensures clean { IfOk result (λ input. IfSome input IsCleanInput) }
+    {
+        match &self.feeder {
+            Some(feeder) => feeder.input(self.monitor.admitted(session)),
+            None => Ok(None),
+        }
+    }
+
+    fn admit_input(mut self, alloc: Global, session: u32, input: Input) -> Result<Turn, NoMemory>
+        requires { IsCleanInput input }
+        ensures { IfOk result (Turns self (core_step self.entries self.played (step.Admit session input))) }
+    {
+        let mut offer = Offer::of(alloc, input)?;
+        match self.monitor.admit(session, &mut offer) {
+            Ok(_) => Ok(self.stepped()),
+            Err(fault) => Ok(self.refused(stop_of(fault))),
+        }
+    }
+
+    fn admit(self, alloc: Global, session: u32) -> Result<Turn, NoMemory>
+        ensures { IfOk result (Turns self (admit_step self.entries self.played session
+            (session_refusal session (past_of self.played.journal) None))) }
+    {
+        if !self.monitor.is_known(session) {
+            return Ok(self.refused(Stop::Step(StepWord::NoSession)));
+        }
+        if self.monitor.is_closed(session) {
+            return Ok(self.refused(Stop::Step(StepWord::Closed)));
+        }
+        match self.next_input(session)? {
+            Some(input) => self.admit_input(alloc, session, input),
+            None => Ok(self.refused(Stop::Step(StepWord::NoFrame))),
+        }
+    }
+
+    fn start(mut self) -> Turn
+        ensures { Turns self (core_step self.entries self.played Start) result }
+    {
+        match self.monitor.start() {
+            Ok(_) => self.stepped(),
+            Err(fault) => self.refused(stop_of(fault)),
+        }
+    }
+
+    fn finish(mut self, alloc: Global, moment: u64) -> Result<Turn, NoMemory>
+        ensures { IfOk result (Turns self (finish_step self.entries self.played moment
+            (named_of (running_of (past_of self.played.journal))))) }
+    {
+        let Some(request) = self.monitor.running() else {
+            return Ok(self.refused(Stop::Step(StepWord::NotRunning)));
+        };
+        match self
+            .monitor
+            .finish(alloc, request.session, request.number, moment)
+        {
+            Ok(()) => Ok(self.stepped()),
             Err(StepFault::Memory) => Err(NoMemory),
             Err(fault) => Ok(self.refused(stop_of(fault))),
         }
