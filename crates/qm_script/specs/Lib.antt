@@ -6,3 +6,4 @@ pub mod Orders
 pub mod Players
 pub mod Playing
 pub mod Plays
+pub mod Runs

@@ -11,6 +11,7 @@ ghost use Rattle.qm_script.specs.Endings.{stop_of as stop_of_fault};
 ghost use Rattle.qm_script.specs.Orders.{fed_by as fed_by_of, order_of};
 ghost use Rattle.qm_script.specs.Playing.{nothing_played, core_step, open_step, fed_step, admit_step, fed_to, finish_step, ordered, line_step};
 
+use crate::MOST_LINES;
 use crate::endings::{StepWord, Stop};
 use crate::feeder::Feeder;
 use crate::orders::{Order, fed_by, order_of_line};
@@ -128,7 +129,6 @@ impl Player {
     }
 
     fn text(self, alloc: Global, session: u32, line: &[u8]) -> Result<Turn, NoMemory>
-        requires { 5 ≤ length line.now }
         ensures { IfOk result (Turns self (fed_step self.played session (fed_by_of line.now ++ 10 ∷ [])
             (session_refusal session (past_of self.played.journal) None))) }
     {
@@ -238,6 +238,34 @@ impl Player {
         match self.monitor.drop_session(session, Cause::Ended) {
             Ok(()) => self.stepped(),
             Err(fault) => self.refused(stop_of(fault)),
+        }
+    }
+
+    fn ordered(self, alloc: Global, order: Order, line: &[u8]) -> Result<Turn, NoMemory>
+        ensures { IfOk result (Turns self (ordered self.entries self.played line.now (Some order))) }
+    {
+        match order {
+            Order::Open => self.open(alloc),
+            Order::Text(session) => self.text(alloc, session, line),
+            Order::Admit(session) => self.admit(alloc, session),
+            Order::Start => Ok(self.start()),
+            Order::Finish(moment) => self.finish(alloc, moment),
+            Order::Take(session) => Ok(self.take(session)),
+            Order::Eof(session) => Ok(self.end(session)),
+            Order::DropEnded(session) => Ok(self.drop_ended(session)),
+        }
+    }
+
+    /// Plays the line of this number, from 1 on.
+    pub fn line(self, alloc: Global, number: u32, line: &[u8]) -> Result<Turn, NoMemory>
+        ensures { IfOk result (Turns self (line_step self.entries number self.played line.now)) }
+    {
+        if number > MOST_LINES {
+            return Ok(self.refused(Stop::BadLine));
+        }
+        match order_of_line(line) {
+            Some(order) => self.ordered(alloc, order, line),
+            None => Ok(self.refused(Stop::BadLine)),
         }
     }
 }
