@@ -15,6 +15,8 @@ use std::marker::Model;
 mod counts;
 mod request_steps;
 mod session_steps;
+#[cfg(test)]
+mod tests;
 
 /// What a monitor may grow to.
 #[derive(Clone, Copy, Debug, PartialEq, Eq)]

@@ -54,7 +54,7 @@ impl Session {
         ensures ok { OnOk result (self.new ≡ record self.old {
           mode = cond opens_commands Command self.old.mode;
           outbox = cond (self.old.opened && not self.old.dropped)
-            (self.old.outbox ++ line ∷ []) self.old.outbox;
+              (self.old.outbox ++ line ∷ []) self.old.outbox;
         }) }
         ensures err { OnErr result (self.new ≡ self.old) }
     {
