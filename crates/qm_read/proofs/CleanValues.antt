@@ -18,7 +18,7 @@ use Rattle.qm_json.specs.declared.value.Member.{Member}
 use Rattle.qm_json.proofs.CleanLaws.{is_clean-Arr, is_clean-Obj, is_clean_member-is}
 use Rattle.qm_read.specs.declared.token.Token.TheVariants as tokens
 use Rattle.qm_read.specs.declared.token.Placed.{Placed}
-use Rattle.qm_read.specs.declared.TheConstants.{DEPTH}
+use Rattle.qm_frame.specs.declared.step.TheConstants.{MAX_DEPTH}
 use Rattle.qm_read.specs.declared.fault.JsonFault.{JsonFault}
 use Rattle.qm_read.specs.declared.fault.JsonFault.TheVariants.{Memory}
 use Rattle.qm_read.specs.Faults.{reading_of}
@@ -115,7 +115,7 @@ mutual
   distinct (member name p q s) = refl
   distinct (more_members {members = members} {v = v} name o p q ms fresh s) = distinct-more members (record { name = name; value = v }) (distinct ms) fresh
 
-clean_value : (text : List ℕ) (v : Json) → SpellsValue DEPTH (tokens_of text) v → is_clean v ≡ true
+clean_value : (text : List ℕ) (v : Json) → SpellsValue MAX_DEPTH (tokens_of text) v → is_clean v ≡ true
 clean_value text v s = clean s (tokens-sound text)
 
 -- what is read is clean

@@ -3,7 +3,7 @@ use Rattle.std.proofs.Common.{◌≡◌, ℕ, ◌+◌, nat_lt, Bool, true, false
 use Rattle.qm_json.specs.declared.value.Json.{Json}
 use Rattle.qm_json.specs.declared.value.Member.{Member}
 use Rattle.qm_json.specs.Members.{has_name}
-use Rattle.qm_read.specs.declared.TheConstants.{DEPTH}
+use Rattle.qm_frame.specs.declared.step.TheConstants.{MAX_DEPTH}
 use Rattle.qm_read.specs.declared.fault.JsonFault.{JsonFault}
 use Rattle.qm_read.specs.declared.fault.JsonFault.TheVariants.{Expected, Duplicate}
 use Rattle.qm_read.specs.declared.stack.Expect.{Expect}
@@ -130,8 +130,8 @@ module _ (before rest : List Placed) (s : State) (n : ℕ) (e : run begun before
   step_fault (tokens.Int i) p f h = elsewhere (tokens.Int i) p f h (unless (takes_value s.expect) _ p tt) (here (tokens.Int i) p f h)
   step_fault (tokens.Num text) p f h = elsewhere (tokens.Num text) p f h (unless (takes_value s.expect) _ p tt) (here (tokens.Num text) p f h)
   step_fault (tokens.Str name) p f h = string_fault name p f h (string_refused (takes_name s.expect) s name p f h)
-  step_fault tokens.OpenArray p f h = elsewhere tokens.OpenArray p f h (unless (takes_value s.expect && nat_lt (length s.stack) (DEPTH + 1)) _ p tt) (here tokens.OpenArray p f h)
-  step_fault tokens.OpenObject p f h = elsewhere tokens.OpenObject p f h (unless (takes_value s.expect && nat_lt (length s.stack) (DEPTH + 1)) _ p tt) (here tokens.OpenObject p f h)
+  step_fault tokens.OpenArray p f h = elsewhere tokens.OpenArray p f h (unless (takes_value s.expect && nat_lt (length s.stack) (MAX_DEPTH + 1)) _ p tt) (here tokens.OpenArray p f h)
+  step_fault tokens.OpenObject p f h = elsewhere tokens.OpenObject p f h (unless (takes_value s.expect && nat_lt (length s.stack) (MAX_DEPTH + 1)) _ p tt) (here tokens.OpenObject p f h)
   step_fault tokens.CloseArray p f h = elsewhere tokens.CloseArray p f h (unless (ends_array s.expect) _ p (closes_array s.stack p)) (here tokens.CloseArray p f h)
   step_fault tokens.CloseObject p f h = elsewhere tokens.CloseObject p f h (unless (ends_object s.expect) _ p (closes_object s.stack p)) (here tokens.CloseObject p f h)
   step_fault tokens.Comma p f h = elsewhere tokens.Comma p f h (takes_comma s.expect s.stack p) (here tokens.Comma p f h)
@@ -146,7 +146,7 @@ too_short (Obj members name ∷ outer) n f e = cc
 
 at_end : (ts : List Placed) (s : State) (n : ℕ) (f : JsonFault) → run begun ts ≡ Ok s → whole s.stack n ≡ Err f → FirstFault ts n f
 at_end ts s n f e h =
-    let none : (value : Json) → SpellsValue DEPTH ts value → ⊥ = λ value spells. (let read : reading ts n ≡ Ok value = reading-spelled ts value n spells in
+    let none : (value : Json) → SpellsValue MAX_DEPTH ts value → ⊥ = λ value spells. (let read : reading ts n ≡ Ok value = reading-spelled ts value n spells in
     let both : Ok value ≡ Err f = sym read ∙ ap (λ (r : Result State JsonFault). ended r n) e ∙ h in cc) in
     subst (FirstFault ts n) (sym (too_short s.stack n f h)) (short ts (taken_begins ts s e) none)
 

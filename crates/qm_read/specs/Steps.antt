@@ -3,7 +3,7 @@ use Rattle.std.specs.Prelude.{ℕ, ◌+◌, nat_lt, Bool, true, false, cond, ◌
 use Rattle.qm_json.specs.declared.value.Json.{Json}
 use Rattle.qm_json.specs.declared.value.Json.TheVariants as json
 use Rattle.qm_json.specs.Members.{has_name}
-use Rattle.qm_read.specs.declared.TheConstants.{DEPTH}
+use Rattle.qm_frame.specs.declared.step.TheConstants.{MAX_DEPTH}
 use Rattle.qm_read.specs.declared.fault.JsonFault.{JsonFault}
 use Rattle.qm_read.specs.declared.fault.JsonFault.TheVariants.{Expected, Duplicate}
 use Rattle.qm_read.specs.declared.stack.Expect.{Expect}
@@ -54,7 +54,7 @@ value_step s v place = cond (takes_value s.expect) (Ok (put v s.stack)) (Err (Ex
 -- an opener, after which something may stand
 abbrev pub open_step : State → Open → Expect → ℕ → Result State JsonFault
 open_step s top next place =
-    cond (takes_value s.expect && nat_lt (length s.stack) (DEPTH + 1))
+    cond (takes_value s.expect && nat_lt (length s.stack) (MAX_DEPTH + 1))
     (Ok record { stack = top ∷ s.stack; expect = next }) (Err (Expected place))
 
 abbrev pub name_step : List Open → List ℕ → ℕ → Result State JsonFault

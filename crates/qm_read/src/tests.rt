@@ -1,6 +1,7 @@
 //! Texts with their values or first faults; the pair of surrogates is that of RFC 8259, section 7.
 
-use crate::{DEPTH, JsonFault, Taken, read};
+use crate::{JsonFault, Taken, read};
+use qm_frame::MAX_DEPTH;
 use std::process::Abort;
 use std::test::Fail;
 
@@ -120,10 +121,10 @@ fn faults_of_strings_have_their_places(rt: HostRuntime) -> Result<(), Fail> {
 #[test]
 fn nesting_has_its_limit(rt: HostRuntime) -> Result<(), Fail> {
     let mut text = Vec::new(rt.alloc());
-    for _ in 0..DEPTH {
+    for _ in 0..MAX_DEPTH {
         text.push(b'[')?;
     }
-    for _ in 0..DEPTH {
+    for _ in 0..MAX_DEPTH {
         text.push(b']')?;
     }
     assert!(rt; read(rt.alloc(), text.as_slice()).is_ok());
