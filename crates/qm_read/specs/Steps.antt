@@ -1,4 +1,5 @@
--- Reading a value token by token: what is open, and what may stand next (this project's own rule).
+-- Reading a value token by token: what is open, and what may stand next. This is how a value or a
+-- fault is computed; which one it is, Spelling and Viable say without it (this project's own rule).
 use Rattle.std.specs.Prelude.{ℕ, ◌+◌, nat_lt, Bool, true, false, cond, ◌&&◌, List, [], ◌∷◌, ◌++◌, length, Result, Ok, Err}
 use Rattle.qm_json.specs.declared.value.Json.{Json}
 use Rattle.qm_json.specs.declared.value.Json.TheVariants as json
