@@ -1,5 +1,5 @@
 -- Tokens with a first fault are refused with it.
-use Rattle.std.proofs.Common.{◌≡◌, ℕ, ◌+◌, nat_lt, Bool, true, false, cond, ◌&&◌, ◌⊎◌, inl, inr, List, [], ◌∷◌, ◌++◌, length, Result, Ok, Err, refl, ap, sym, ◌∙◌, subst, append_assoc}
+use Rattle.std.proofs.Common.{◌≡◌, ℕ, inl, inr, List, [], ◌∷◌, ◌++◌, Result, Ok, Err, refl, ap, sym, ◌∙◌, subst, append_assoc}
 use Rattle.qm_frame.specs.declared.step.TheConstants.{MAX_DEPTH}
 use Rattle.qm_json.specs.declared.value.Json.{Json}
 use Rattle.qm_read.specs.declared.fault.JsonFault.{JsonFault}
@@ -9,7 +9,7 @@ use Rattle.qm_read.specs.declared.token.Token.TheVariants as tokens
 use Rattle.qm_read.specs.declared.token.Placed.{Placed}
 use Rattle.qm_read.specs.Tokens.{at}
 use Rattle.qm_read.specs.Spelling.{SpellsValue}
-use Rattle.qm_read.specs.Steps.{State, begun, step, takes_name}
+use Rattle.qm_read.specs.Steps.{State, begun, step}
 use Rattle.qm_read.specs.Faults.{run, on, whole, ended, reading}
 use Rattle.qm_read.specs.Viable.{BeginsValue, IsMisplaced, FirstFault, wrong, misplaced, twice, short}
 use Rattle.qm_read.proofs.Accepts.{reading-spelled}

@@ -1,9 +1,9 @@
 -- A text that is refused has the fault at the first token with which no value begins any more.
-use Rattle.std.proofs.Common.{◌≡◌, ℕ, ◌⊎◌, inl, inr, List, [], ◌∷◌, ◌++◌, Result, Ok, Err, refl, ap, sym, ◌∙◌, subst, append_assoc, append-nil}
+use Rattle.std.proofs.Common.{◌≡◌, ℕ, inl, inr, List, [], ◌∷◌, ◌++◌, Result, Ok, Err, refl, ap, sym, ◌∙◌, subst, append_assoc, append-nil}
 use Rattle.qm_frame.specs.declared.step.TheConstants.{MAX_DEPTH}
 use Rattle.qm_json.specs.declared.value.Json.{Json}
 use Rattle.qm_read.specs.declared.fault.JsonFault.{JsonFault}
-use Rattle.qm_read.specs.declared.fault.JsonFault.TheVariants.{Expected, Duplicate}
+use Rattle.qm_read.specs.declared.fault.JsonFault.TheVariants.{Expected}
 use Rattle.qm_read.specs.declared.token.Token.{Token}
 use Rattle.qm_read.specs.declared.token.Token.TheVariants as tokens
 use Rattle.qm_read.specs.declared.token.Placed.{Placed}

@@ -1,5 +1,5 @@
 -- What a text is read as, by what it spells and by its first fault.
-use Rattle.std.proofs.Common.{◌≡◌, ◌≢◌, ℕ, List, length, Result, Ok, Err, IfOk, IfErr, refl, sym, subst}
+use Rattle.std.proofs.Common.{◌≡◌, ◌≢◌, ℕ, List, length, Result, Ok, Err, IfOk, IfErr, refl, sym}
 use Rattle.qm_json.specs.Cleanness.{IsClean}
 use Rattle.qm_json.specs.declared.value.Json.{Json}
 use Rattle.qm_read.specs.declared.fault.JsonFault.{JsonFault}

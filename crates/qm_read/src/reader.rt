@@ -3,9 +3,9 @@ ghost use Rattle.qm_read.specs.Faults.{whole};
 ghost use Rattle.qm_read.specs.Feeding.{Steps};
 ghost use Rattle.qm_read.specs.Steps.{begun, step, takes_value as of_value, takes_name as of_name, given, after_value as next_after, ends_array as array_end, ends_object as object_end, value_step, open_step, name_step, after_comma as comma_then, left};
 
+use crate::JsonFault;
 use crate::stack::{Expect, Open};
 use crate::token::Token;
-use crate::JsonFault;
 use qm_base::{NoMemory, Text};
 use qm_frame::MAX_DEPTH;
 use qm_json::{Json, Member, has_member};

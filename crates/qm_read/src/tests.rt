@@ -23,8 +23,14 @@ fn expect(rt: &(impl Abort + AllocGlobal), text: &[u8], told: &str) -> Result<()
 #[test]
 fn values_are_read(rt: HostRuntime) -> Result<(), Fail> {
     let cases: [(&[u8], &str); 20] = [
-        (b"{\"execute\":\"query-version\"}", "{\"execute\": \"query-version\"}"),
-        (b"{'execute':'quit','id':7}", "{\"execute\": \"quit\", \"id\": 7}"),
+        (
+            b"{\"execute\":\"query-version\"}",
+            "{\"execute\": \"query-version\"}",
+        ),
+        (
+            b"{'execute':'quit','id':7}",
+            "{\"execute\": \"quit\", \"id\": 7}",
+        ),
         (b" \t\r\n[ ] \n", "[]"),
         (b"[null,true , false]", "[null, true, false]"),
         (b"{\"a\":{\"b\":[{}]}}", "{\"a\": {\"b\": [{}]}}"),
@@ -36,8 +42,14 @@ fn values_are_read(rt: HostRuntime) -> Result<(), Fail> {
         ("\"\u{E9}\"".as_bytes(), "\"\\u00E9\""),
         (b"'\\u00e9'", "\"\\u00E9\""),
         (b"\"\\uD834\\uDD1E\"", "\"\\uD834\\uDD1E\""),
-        ("\"\u{1D11E}\u{FFFE}\"".as_bytes(), "\"\\uD834\\uDD1E\\uFFFE\""),
-        (b"\"\\\"\\'\\\\\\/\\b\\f\\n\\r\\t\\u0000\"", "\"\\\"'\\\\/\\b\\f\\n\\r\\t\\u0000\""),
+        (
+            "\"\u{1D11E}\u{FFFE}\"".as_bytes(),
+            "\"\\uD834\\uDD1E\\uFFFE\"",
+        ),
+        (
+            b"\"\\\"\\'\\\\\\/\\b\\f\\n\\r\\t\\u0000\"",
+            "\"\\\"'\\\\/\\b\\f\\n\\r\\t\\u0000\"",
+        ),
         (b"'\"'", "\"\\\"\""),
         (b"\"'\"", "\"'\""),
         (b"\"\"", "\"\""),
@@ -136,6 +148,11 @@ fn nesting_has_its_limit(rt: HostRuntime) -> Result<(), Fail> {
 #[test]
 fn messages_are_taken(rt: HostRuntime) -> Result<(), Fail> {
     assert!(rt; matches!(Taken::of_message(rt.alloc(), b"{}")?, Taken::Value(_)));
-    assert!(rt; matches!(Taken::of_message(rt.alloc(), b"{]")?, Taken::BadText(JsonFault::Expected(1))));
+    assert!(rt;
+        matches!(
+            Taken::of_message(rt.alloc(), b"{]")?,
+            Taken::BadText(JsonFault::Expected(1))
+        )
+    );
     Ok(())
 }

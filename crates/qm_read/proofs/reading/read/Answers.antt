@@ -1,6 +1,5 @@
-use Rattle.std.proofs.Common.{◌≡◌, ◌≢◌, ◌∙◌, arith, ap, Err}
+use Rattle.std.proofs.Common.{◌≢◌, ◌∙◌, arith, ap, Err}
 use Rattle.qm_read.specs.declared.fault.JsonFault.TheVariants.{Memory}
-use Rattle.qm_read.specs.Faults.{reading_of}
 use Rattle.qm_read.proofs.Feeds.{refused, at_end, fed-whole}
 use Rattle.qm_read.proofs.Results.{result-spelled, result-clean, result-fault}
 use Rattle.qm_read.proofs.reading.read.Goals as goal
