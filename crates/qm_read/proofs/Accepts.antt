@@ -11,7 +11,7 @@ use Rattle.qm_read.specs.declared.stack.Open.{Open}
 use Rattle.qm_read.specs.declared.stack.Open.TheVariants.{Top, Arr, Obj}
 use Rattle.qm_read.specs.declared.stack.Expect.{Expect}
 use Rattle.qm_read.specs.declared.stack.Expect.TheVariants.{Value, ValueOrEnd, Name, NameOrEnd, Colon, CommaOrEnd, End}
-use Rattle.qm_read.specs.declared.TheConstants.{DEPTH}
+use Rattle.qm_frame.specs.declared.step.TheConstants.{MAX_DEPTH}
 use Rattle.qm_json.specs.Members.{has_name}
 use Rattle.qm_read.specs.Steps.{State, begun, takes_value, takes_name, put}
 use Rattle.qm_read.specs.Faults.{run, ended, reading}
@@ -23,9 +23,9 @@ going stack e = record { stack = stack; expect = e }
 
 -- d more brackets may be opened
 abbrev Room : ℕ → List Open → Type 0
-Room d stack = length stack + d ≡ DEPTH + 1
+Room d stack = length stack + d ≡ MAX_DEPTH + 1
 
-may_open : (d : ℕ) (stack : List Open) → Room (suc d) stack → nat_lt (length stack) (DEPTH + 1) ≡ true
+may_open : (d : ℕ) (stack : List Open) → Room (suc d) stack → nat_lt (length stack) (MAX_DEPTH + 1) ≡ true
 may_open d stack h = grind (arith, nat_tests, h)
 
 not_name : (e : Expect) → takes_value e ≡ true → takes_name e ≡ false
@@ -83,5 +83,5 @@ mutual
       ∙ accepts s (Obj members name) stack Value rest refl h
 
 -- what spells a value is read as that value
-pub reading-spelled : (ts : List Placed) (v : Json) (length : ℕ) → SpellsValue DEPTH ts v → reading ts length ≡ Ok v
+pub reading-spelled : (ts : List Placed) (v : Json) (length : ℕ) → SpellsValue MAX_DEPTH ts v → reading ts length ≡ Ok v
 reading-spelled ts v n s = ap (λ (r : Result State JsonFault). ended r n) (ap (run begun) (sym (append-nil ts)) ∙ accepts s Top [] Value [] refl (omega arith))

@@ -1,15 +1,14 @@
 -- What the bytes of a string stand for is UTF-8.
-use Rattle.std.proofs.Common.{◌≡◌, ◌≢◌, ℕ, ◌+◌, ◌*◌, ◌<◌, ◌≤◌, Bool, true, false, not, cond, ◌&&◌, ◌||◌, ◌==◌, nat_lt, zero, suc, List, [], ◌∷◌, ◌++◌, take, drop, length, Option, Some, None, Result, Ok, Err, refl, ap, sym, ◌∙◌, subst, arith, add-one}
+use Rattle.std.proofs.Common.{◌≡◌, ◌≢◌, ℕ, ◌+◌, ◌*◌, ◌<◌, Bool, true, false, cond, ◌&&◌, ◌||◌, ◌==◌, zero, suc, List, [], ◌∷◌, take, drop, length, Option, Some, None, Result, Ok, Err, refl, arith, add-one}
 use Rattle.std.proofs.lemmas.Bool.Decides.{nat_tests}
 use Rattle.std.proofs.lemmas.List.{length-take, take_min}
 use Rattle.std.proofs.lemmas.Str.{IsUtf8-append, IsUtf8-encode, IsUtf8-nil, IsUtf8-from_is_utf8}
-use Rattle.std.specs.Char.{digit_value, IsScalar, encode_utf8}
+use Rattle.std.specs.Char.{digit_value, IsScalar}
 use Rattle.std.specs.Char.Utf16.{is_high_surrogate, is_low_surrogate, surrogate_pair_char}
 use Rattle.std.specs.Str.{continuation_len, is_utf8, IsUtf8}
 use Rattle.qm_read.specs.declared.fault.JsonFault.{JsonFault}
 use Rattle.qm_read.specs.declared.fault.JsonFault.TheVariants.{BadEscape, BadUtf8, Memory}
 use Rattle.qm_read.specs.declared.strings.Part.{Part}
-use Rattle.qm_read.specs.declared.strings.Part.TheVariants.{Same, Char}
 use Rattle.qm_read.specs.Strings.{is_hex, hex_of, unicode_of, pair_of, unicode_escape, escaped_byte, short_escape, escape, character, part, text_in, more_in, followed_by, after_part, text_after, text_of}
 
 -- UTF-8, or a fault of the text

@@ -1,13 +1,11 @@
 -- The tokens of a text hold what a clean value may hold.
-use Rattle.std.proofs.Common.{◌≡◌, ◌≢◌, ℕ, Bool, true, false, cond, ◌&&◌, ◌==◌, zero, suc, List, [], ◌∷◌, ◌++◌, take, drop, codes, Option, Some, None, Result, Ok, Err, refl}
-use Rattle.std.proofs.lemmas.Bool.{false_from_ne_true}
+use Rattle.std.proofs.Common.{◌≡◌, ◌≢◌, ℕ, Bool, true, false, cond, ◌==◌, zero, suc, List, [], ◌∷◌, ◌++◌, take, drop, codes, Option, Some, None, Result, Ok, Err, refl}
 use Rattle.std.proofs.lemmas.Str.{is_utf8-from_IsUtf8}
-use Rattle.std.specs.Prelude.{ℤ}
 use Rattle.std.specs.Str.{bytes_eq, is_utf8}
 use Rattle.std.specs.Str.Parse.{signed_digits_value}
 use Rattle.qm_base.specs.Search.{Front, Piece, Final, Found, after_front, found_after}
 use Rattle.qm_frame.specs.Bytes.{is_space, begins_number, in_number, is_letter, is_quote}
-use Rattle.qm_json.specs.Numbers.{is_literal, is_whole_part, after_minus, is_whole_literal, is_in_whole_range, whole_of}
+use Rattle.qm_json.specs.Numbers.{is_literal, is_whole_part, after_minus, is_whole_literal, is_in_whole_range}
 use Rattle.qm_read.specs.declared.fault.JsonFault.{JsonFault}
 use Rattle.qm_read.specs.declared.fault.JsonFault.TheVariants.{Expected, Memory}
 use Rattle.qm_read.specs.declared.token.Last.{Last}
@@ -17,7 +15,7 @@ use Rattle.qm_read.specs.declared.token.Token.TheVariants as tokens
 use Rattle.qm_read.specs.declared.token.Placed.{Placed}
 use Rattle.qm_read.specs.Bytes.{Byte, numbered, codes_of, first_not}
 use Rattle.qm_read.specs.Strings.{raw_length, text_of}
-use Rattle.qm_read.specs.Tokens.{at, literal_token, number_token, word_token, mark_token, string_token, run_to, ended_string, string_at, string_to, piece, found, closing, tokens_of}
+use Rattle.qm_read.specs.Tokens.{literal_token, number_token, word_token, mark_token, string_token, run_to, string_at, string_to, piece, found, closing, tokens_of}
 use Rattle.qm_read.proofs.CleanTexts.{second, IsClear, text_of-clear}
 
 abbrev pub IsSound : Token → Type 0

@@ -1,5 +1,5 @@
--- What is read from a text is clean.
-use Rattle.std.proofs.Common.{◌≡◌, ◌≢◌, ℕ, Bool, true, false, not, cond, ◌&&◌, ◌||◌, suc, List, [], ◌∷◌, ◌++◌, map, length, Result, Ok, Err, IfOk, refl, ap, sym, ◌∙◌}
+-- What the tokens of a text spell is clean.
+use Rattle.std.proofs.Common.{◌≡◌, ◌≢◌, ℕ, Bool, true, false, not, ◌&&◌, ◌||◌, List, [], ◌∷◌, ◌++◌, map, length, refl, ap, sym, ◌∙◌}
 use Rattle.std.specs.Prelude.{ℤ}
 use Rattle.qm_json.specs.Numbers.{is_literal, is_whole_literal, is_in_whole_range}
 use Rattle.std.specs.List.{list_all, list_any}
@@ -18,17 +18,14 @@ use Rattle.qm_json.specs.declared.value.Member.{Member}
 use Rattle.qm_json.proofs.CleanLaws.{is_clean-Arr, is_clean-Obj, is_clean_member-is}
 use Rattle.qm_read.specs.declared.token.Token.TheVariants as tokens
 use Rattle.qm_read.specs.declared.token.Placed.{Placed}
-use Rattle.qm_read.specs.declared.TheConstants.{DEPTH}
 use Rattle.qm_read.specs.declared.fault.JsonFault.{JsonFault}
 use Rattle.qm_read.specs.declared.fault.JsonFault.TheVariants.{Memory}
-use Rattle.qm_read.specs.Faults.{reading_of}
+use Rattle.qm_read.specs.Texts.{Spells, HasFault}
 use Rattle.qm_read.specs.Viable.{FirstFault, wrong, misplaced, twice, short}
 use Rattle.qm_read.specs.Tokens.{at, tokens_of}
 use Rattle.qm_read.specs.Spelling.{SpellsValue, null, bool, int, num, string, no_items, array, no_members, object, SpellsItems, item, more_items, SpellsMembers, member, more_members}
 use Rattle.qm_read.proofs.CleanTexts.{first, second}
 use Rattle.qm_read.proofs.CleanTokens.{AreSound, sound-front, sound-rest, tokens-sound}
-use Rattle.qm_read.proofs.FirstFaults.{first_fault}
-use Rattle.qm_read.proofs.Holds.{spelled}
 
 clean-Null : is_clean json.Null ≡ true
 clean-Null = ap is_clean (sym rolls-Null) ∙ fold-roll-Json Bool NameAndTest clean_layer clean_member_layer layer.Json-F.Null
@@ -115,17 +112,9 @@ mutual
   distinct (member name p q s) = refl
   distinct (more_members {members = members} {v = v} name o p q ms fresh s) = distinct-more members (record { name = name; value = v }) (distinct ms) fresh
 
-clean_value : (text : List ℕ) (v : Json) → SpellsValue DEPTH (tokens_of text) v → is_clean v ≡ true
-clean_value text v s = clean s (tokens-sound text)
-
--- what is read is clean
-pub read-clean : (text : List ℕ) (v : Json) → reading_of text ≡ Ok v → IsClean v
-unfolding reading_of
-read-clean text v e = clean_value text v (spelled (tokens_of text) v (length text) e)
-
-pub result-clean : (text : List ℕ) (r : Result Json JsonFault) → (r ≢ Err Memory → r ≡ reading_of text) → IfOk r IsClean
-result-clean text (Ok v) h = read-clean text v (sym (h (λ e. cc)))
-result-clean text (Err f) h = tt
+-- what the tokens of a text spell is clean
+pub spelled-clean : (text : List ℕ) (v : Json) → Spells text v → IsClean v
+spelled-clean text v s = clean s (tokens-sound text)
 
 text_fault : (ts : List Placed) (n : ℕ) (f : JsonFault) → FirstFault ts n f → AreSound ts → f ≢ Memory
 text_fault ts n f (wrong before rest fault p b) h = (sound-rest before (at (tokens.Bad fault) p ∷ rest) h).0
@@ -134,6 +123,5 @@ text_fault ts n f (twice before rest name other p m b) h = λ e. cc
 text_fault ts n f (short us b m) h = λ e. cc
 
 -- want of memory is no fault of a text
-pub read-told : (text : List ℕ) → reading_of text ≢ Err Memory
-unfolding reading_of
-read-told text e = text_fault (tokens_of text) (length text) Memory (first_fault (tokens_of text) (length text) Memory e) (tokens-sound text) refl
+pub fault-told : (text : List ℕ) (f : JsonFault) → HasFault text f → f ≢ Memory
+fault-told text f h = text_fault (tokens_of text) (length text) f h (tokens-sound text)

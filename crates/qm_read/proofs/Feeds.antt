@@ -10,7 +10,7 @@ use Rattle.qm_read.specs.declared.token.Placed.{Placed}
 use Rattle.qm_read.specs.Bytes.{Byte, numbered}
 use Rattle.qm_read.specs.Tokens.{found, closing, tokens_in, tokens_of}
 use Rattle.qm_read.specs.Steps.{State, begun}
-use Rattle.qm_read.specs.Faults.{run, on, ended, reading, reading_of}
+use Rattle.qm_read.specs.Faults.{run, ended, reading, reading_of}
 use Rattle.qm_read.specs.Feeding.{begins, moved, fed, LiesBefore}
 use Rattle.qm_read.specs.Strings.{ends_string}
 use Rattle.qm_frame.specs.Bytes.{is_space, begins_number, in_number, is_letter, is_quote}

@@ -13,7 +13,7 @@ use Rattle.qm_read.specs.declared.stack.Open.{Open}
 use Rattle.qm_read.specs.declared.stack.Open.TheVariants.{Top, Arr, Obj, Whole}
 use Rattle.qm_read.specs.declared.stack.Expect.{Expect}
 use Rattle.qm_read.specs.declared.stack.Expect.TheVariants.{Value, ValueOrEnd, Name, NameOrEnd, Colon, CommaOrEnd, End}
-use Rattle.qm_read.specs.declared.TheConstants.{DEPTH}
+use Rattle.qm_frame.specs.declared.step.TheConstants.{MAX_DEPTH}
 use Rattle.qm_json.specs.Members.{has_name}
 use Rattle.qm_read.specs.Steps.{State, begun, put, left, step}
 use Rattle.qm_read.specs.Faults.{whole, run, on, ended, reading}
@@ -27,7 +27,7 @@ going stack e = record { stack = stack; expect = e }
 
 -- all tokens so far leave this open, and a value comes, in which d brackets more may be opened
 data Awaits : ℕ → List Placed → List Open → Type 0 where
-  top : Awaits DEPTH [] (Top ∷ [])
+  top : Awaits MAX_DEPTH [] (Top ∷ [])
   first_item : {d : ℕ} {ts all : List Placed} {stack : List Open} (p : ℕ) → Awaits (suc d) ts stack → all ≡ ts ++ at tokens.OpenArray p ∷ [] → Awaits d all (Arr [] ∷ stack)
   next_item : {d : ℕ} {ts us all : List Placed} {items : List Json} {stack : List Open} (p c : ℕ) → Awaits (suc d) ts stack → SpellsItems d us items → all ≡ ts ++ (at tokens.OpenArray p ∷ us ++ at tokens.Comma c ∷ []) → Awaits d all (Arr items ∷ stack)
   first_member : {d : ℕ} {ts all : List Placed} {stack : List Open} (name : List ℕ) (p n c : ℕ) → Awaits (suc d) ts stack → all ≡ ts ++ at tokens.OpenObject p ∷ at (tokens.Str name) n ∷ at tokens.Colon c ∷ [] → Awaits d all (Obj [] name ∷ stack)
@@ -43,9 +43,9 @@ data Holds : List Placed → State → Type 0 where
   name_next : {d : ℕ} {ts us all : List Placed} {members : List Member} {stack : List Open} (p o : ℕ) → Awaits (suc d) ts stack → SpellsMembers d us members → all ≡ ts ++ (at tokens.OpenObject p ∷ us ++ at tokens.Comma o ∷ []) → Holds all (going (Obj members [] ∷ stack) Name)
   first_name : {d : ℕ} {ts all : List Placed} {stack : List Open} (name : List ℕ) (p n : ℕ) → Awaits (suc d) ts stack → all ≡ ts ++ at tokens.OpenObject p ∷ at (tokens.Str name) n ∷ [] → Holds all (going (Obj [] name ∷ stack) Colon)
   next_name : {d : ℕ} {ts us all : List Placed} {members : List Member} {stack : List Open} (name : List ℕ) (p o n : ℕ) → Awaits (suc d) ts stack → SpellsMembers d us members → has_name members name ≡ false → all ≡ ts ++ (at tokens.OpenObject p ∷ us ++ at tokens.Comma o ∷ at (tokens.Str name) n ∷ []) → Holds all (going (Obj members name ∷ stack) Colon)
-  done : {all : List Placed} {v : Json} → SpellsValue DEPTH all v → Holds all (going (Whole v ∷ []) End)
+  done : {all : List Placed} {v : Json} → SpellsValue MAX_DEPTH all v → Holds all (going (Whole v ∷ []) End)
 
-room : {d : ℕ} {all : List Placed} {stack : List Open} → Awaits d all stack → length stack + d ≡ DEPTH + 1
+room : {d : ℕ} {all : List Placed} {stack : List Open} → Awaits d all stack → length stack + d ≡ MAX_DEPTH + 1
 room top = omega arith
 room (first_item p a e) = omega (arith, room a)
 room (next_item p c a is e) = omega (arith, room a)
@@ -57,7 +57,7 @@ after ts us t all ends e f = f ∙ ap (λ (l : List Placed). l ++ t) e ∙ appen
 
 -- a value that was awaited
 holds_put : {d : ℕ} {ts : List Placed} {stack : List Open} → Awaits d ts stack → (t all : List Placed) (v : Json) → SpellsValue d t v → all ≡ ts ++ t → Holds all (put v stack)
-holds_put top t all v s e = done (subst (λ (l : List Placed). SpellsValue DEPTH l v) (sym e) s)
+holds_put top t all v s e = done (subst (λ (l : List Placed). SpellsValue MAX_DEPTH l v) (sym e) s)
 holds_put (first_item {ts = us} p a e) t all v s f = items_read p a (item s) (after _ us t all _ e f)
 holds_put (next_item {ts = us} {us = is} p c a i e) t all v s f = items_read p a (more_items c i s) (after _ us t all _ e f ∙ ap (λ (l : List Placed). us ++ at tokens.OpenArray p ∷ l) (append_assoc is (at tokens.Comma c ∷ []) t))
 holds_put (first_member {ts = us} name p n c a e) t all v s f = members_read p a (member name n c s) (after _ us t all _ e f)
@@ -74,17 +74,17 @@ abbrev Took : (ts : List Placed) (k : Token) (p : ℕ) → Result State JsonFaul
 Took ts k p (Ok s) = Holds (ts ++ at k p ∷ []) s
 Took ts k p (Err f) = Unit {0}
 
-opened_array : (d : ℕ) {ts : List Placed} {stack : List Open} → Awaits d ts stack → (p : ℕ) (b : Bool) (f : JsonFault) → (b ≡ true → length stack < DEPTH + 1) → Took ts tokens.OpenArray p (cond b (Ok (going (Arr [] ∷ stack) ValueOrEnd)) (Err f))
+opened_array : (d : ℕ) {ts : List Placed} {stack : List Open} → Awaits d ts stack → (p : ℕ) (b : Bool) (f : JsonFault) → (b ≡ true → length stack < MAX_DEPTH + 1) → Took ts tokens.OpenArray p (cond b (Ok (going (Arr [] ∷ stack) ValueOrEnd)) (Err f))
 opened_array d a p false f h = tt
 opened_array zero a p true f h = absurd (omega (arith, h refl, room a))
 opened_array (suc d) a p true f h = array_begun p a refl
 
-opened_object : (d : ℕ) {ts : List Placed} {stack : List Open} → Awaits d ts stack → (p : ℕ) (b : Bool) (f : JsonFault) → (b ≡ true → length stack < DEPTH + 1) → Took ts tokens.OpenObject p (cond b (Ok (going (Obj [] [] ∷ stack) NameOrEnd)) (Err f))
+opened_object : (d : ℕ) {ts : List Placed} {stack : List Open} → Awaits d ts stack → (p : ℕ) (b : Bool) (f : JsonFault) → (b ≡ true → length stack < MAX_DEPTH + 1) → Took ts tokens.OpenObject p (cond b (Ok (going (Obj [] [] ∷ stack) NameOrEnd)) (Err f))
 opened_object d a p false f h = tt
 opened_object zero a p true f h = absurd (omega (arith, h refl, room a))
 opened_object (suc d) a p true f h = object_begun p a refl
 
-below : (n : ℕ) → nat_lt n (DEPTH + 1) ≡ true → n < DEPTH + 1
+below : (n : ℕ) → nat_lt n (MAX_DEPTH + 1) ≡ true → n < MAX_DEPTH + 1
 below n e = grind (arith, nat_tests, e)
 
 named : {d : ℕ} {ts us all : List Placed} {members : List Member} {stack : List Open} (p o n : ℕ) (name : List ℕ) (b : Bool) (f : JsonFault) → Awaits (suc d) ts stack → SpellsMembers d us members → all ≡ ts ++ (at tokens.OpenObject p ∷ us ++ at tokens.Comma o ∷ []) → has_name members name ≡ b → Took all (tokens.Str name) n (cond b (Err f) (Ok (going (Obj members name ∷ stack) Colon)))
@@ -140,16 +140,16 @@ ran : (ts us : List Placed) (s : State) → Holds ts s → Ran (ts ++ us) (run s
 ran ts [] s h = subst (λ (l : List Placed). Holds l s) (sym (append-nil ts)) h
 ran ts (t ∷ us) s h = ran_next ts us t (step s t.token t.place) (holds_step h t.token t.place) (λ next held. ran (ts ++ t ∷ []) us next held)
 
-not_whole : {d : ℕ} {ts : List Placed} {stack : List Open} → Awaits d ts stack → (n : ℕ) (v : Json) → whole stack n ≡ Ok v → SpellsValue DEPTH ts v
+not_whole : {d : ℕ} {ts : List Placed} {stack : List Open} → Awaits d ts stack → (n : ℕ) (v : Json) → whole stack n ≡ Ok v → SpellsValue MAX_DEPTH ts v
 not_whole top n v e = cc
 not_whole (first_item p a q) n v e = cc
 not_whole (next_item p c a is q) n v e = cc
 not_whole (first_member name p m c a q) n v e = cc
 not_whole (next_member name p o m c a ms f q) n v e = cc
 
-concluded : {ts : List Placed} {s : State} → Holds ts s → (n : ℕ) (v : Json) → whole s.stack n ≡ Ok v → SpellsValue DEPTH ts v
+concluded : {ts : List Placed} {s : State} → Holds ts s → (n : ℕ) (v : Json) → whole s.stack n ≡ Ok v → SpellsValue MAX_DEPTH ts v
 concluded (awaiting a) n v e = not_whole a n v e
-concluded (done {all = ts} {v = w} s) n v e = let same : w ≡ v = cc in subst (λ (x : Json). SpellsValue DEPTH ts x) same s
+concluded (done {all = ts} {v = w} s) n v e = let same : w ≡ v = cc in subst (λ (x : Json). SpellsValue MAX_DEPTH ts x) same s
 concluded (array_begun p a q) n v e = cc
 concluded (items_read p a i q) n v e = cc
 concluded (object_begun p a q) n v e = cc
@@ -158,7 +158,7 @@ concluded (name_next p o a m q) n v e = cc
 concluded (first_name name p m a q) n v e = cc
 concluded (next_name name p o m a ms f q) n v e = cc
 
-ended_spells : (ts : List Placed) (r : Result State JsonFault) → Ran ts r → (n : ℕ) (v : Json) → ended r n ≡ Ok v → SpellsValue DEPTH ts v
+ended_spells : (ts : List Placed) (r : Result State JsonFault) → Ran ts r → (n : ℕ) (v : Json) → ended r n ≡ Ok v → SpellsValue MAX_DEPTH ts v
 ended_spells ts (Ok s) h n v e = concluded h n v e
 ended_spells ts (Err f) h n v e = cc
 
@@ -167,10 +167,10 @@ behind : (us ends t all rest : List Placed) → all ≡ us ++ (ends ++ t) → al
 behind us ends t all rest e = ap (λ (l : List Placed). l ++ rest) e ∙ append_assoc us (ends ++ t) rest ∙ ap (λ (l : List Placed). us ++ l) (append_assoc ends t rest)
 
 followed : (ts us : List Placed) → BeginsValue (ts ++ us) → BeginsValue ts
-followed ts us b = record { rest = us ++ b.rest; value = b.value; is = subst (λ (l : List Placed). SpellsValue DEPTH l b.value) (append_assoc ts us b.rest) b.is }
+followed ts us b = record { rest = us ++ b.rest; value = b.value; is = subst (λ (l : List Placed). SpellsValue MAX_DEPTH l b.value) (append_assoc ts us b.rest) b.is }
 
 closes : {d : ℕ} {ts : List Placed} {stack : List Open} → Awaits d ts stack → (t : List Placed) (v : Json) → SpellsValue d t v → BeginsValue (ts ++ t)
-closes top t v s = record { rest = []; value = v; is = subst (λ (l : List Placed). SpellsValue DEPTH l v) (sym (append-nil t)) s }
+closes top t v s = record { rest = []; value = v; is = subst (λ (l : List Placed). SpellsValue MAX_DEPTH l v) (sym (append-nil t)) s }
 closes (first_item {ts = us} {all = ts} p a e) t v s =
     followed (ts ++ t) (at tokens.CloseArray 0 ∷ []) (subst BeginsValue (sym (behind us (at tokens.OpenArray p ∷ []) t (ts ++ t) (at tokens.CloseArray 0 ∷ []) (after ts us t (ts ++ t) _ e refl))) (closes a _ _ (array p 0 (item s))))
 closes (next_item {ts = us} {us = is} {all = ts} p c a i e) t v s =
@@ -199,12 +199,12 @@ begins (members_read {ts = us} {all = ts} p a m e) = followed ts (at tokens.Clos
 begins (name_next {ts = us} {us = ms} {all = ts} {members = members} p o a m e) = followed ts (at (tokens.Str (fresh members)) 0 ∷ []) (next_begins (fresh members) p o 0 a m (fresh_name members) (after ts us (at (tokens.Str (fresh members)) 0 ∷ []) _ _ e refl ∙ ap (λ (l : List Placed). us ++ at tokens.OpenObject p ∷ l) (append_assoc ms (at tokens.Comma o ∷ []) (at (tokens.Str (fresh members)) 0 ∷ []))))
 begins (first_name {all = ts} name p n a e) = first_begins name p n a e
 begins (next_name name p o n a m f e) = next_begins name p o n a m f e
-begins (done {all = ts} {v = v} s) = record { rest = []; value = v; is = subst (λ (l : List Placed). SpellsValue DEPTH l v) (sym (append-nil ts)) s }
+begins (done {all = ts} {v = v} s) = record { rest = []; value = v; is = subst (λ (l : List Placed). SpellsValue MAX_DEPTH l v) (sym (append-nil ts)) s }
 
 -- what is taken begins a value
 pub taken_begins : (ts : List Placed) (s : State) → run begun ts ≡ Ok s → BeginsValue ts
 taken_begins ts s e = begins (subst (Ran ts) e (ran [] ts begun (awaiting top)))
 
 -- what is read as a value spells it
-pub spelled : (ts : List Placed) (v : Json) (length : ℕ) → reading ts length ≡ Ok v → SpellsValue DEPTH ts v
+pub spelled : (ts : List Placed) (v : Json) (length : ℕ) → reading ts length ≡ Ok v → SpellsValue MAX_DEPTH ts v
 spelled ts v n e = ended_spells ts (run begun ts) (ran [] ts begun (awaiting top)) n v e

@@ -2,11 +2,14 @@ pub mod Accepts
 pub mod CleanTexts
 pub mod CleanTokens
 pub mod CleanValues
+pub mod FaultLaws
 pub mod Feeds
 pub mod FirstFaults
 pub mod Fresh
 pub mod Holds
 pub mod Lexing
 pub mod LiteralLemmas
+pub mod Refusals
+pub mod Results
 pub mod Runs
 pub mod StringLemmas

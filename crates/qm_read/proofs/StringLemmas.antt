@@ -1,5 +1,5 @@
 -- What the bytes of a string stand for.
-use Rattle.std.proofs.Common.{◌≡◌, ℕ, ◌+◌, ◌-◌, ◌<◌, ◌≤◌, Bool, true, false, cond, ◌&&◌, ◌||◌, ◌==◌, zero, suc, List, [], ◌∷◌, ◌++◌, take, drop, length, Option, Some, None, Result, Ok, Err, IfOk, refl, ap, sym, ◌∙◌, subst, arith, append_assoc, append-nil, slice_index}
+use Rattle.std.proofs.Common.{◌≡◌, ℕ, ◌+◌, ◌<◌, ◌≤◌, Bool, true, false, cond, ◌&&◌, ◌||◌, ◌==◌, zero, suc, List, [], ◌∷◌, ◌++◌, drop, length, Option, Some, None, Result, Ok, Err, IfOk, refl, ap, sym, ◌∙◌, subst, arith, append_assoc, append-nil, slice_index}
 use Rattle.std.proofs.lemmas.Bool.Decides.{nat_tests}
 use Rattle.std.proofs.lemmas.List.{length-drop, drop-drop}
 use Rattle.std.proofs.Math.ListN.{drop_of_length-le}
@@ -8,10 +8,10 @@ use Rattle.std.proofs.lemmas.Str.Ascii.{IsAscii-cons, IsAscii-nil}
 use Rattle.std.specs.Char.Utf16.{is_high_surrogate, is_low_surrogate, surrogate_pair_char}
 use Rattle.std.specs.Str.{continuation_len, is_utf8}
 use Rattle.qm_read.specs.declared.fault.JsonFault.{JsonFault}
-use Rattle.qm_read.specs.declared.fault.JsonFault.TheVariants.{BadEscape, BadUtf8}
+use Rattle.qm_read.specs.declared.fault.JsonFault.TheVariants.{BadEscape}
 use Rattle.qm_read.specs.declared.strings.Part.{Part}
 use Rattle.qm_read.specs.declared.strings.Part.TheVariants.{Same, Char}
-use Rattle.qm_read.specs.Strings.{is_hex, hex_of, unicode_of, pair_of, unicode_escape, escaped_byte, short_escape, escape, character, part, text_in, more_in, followed_by, after_part, text_after}
+use Rattle.qm_read.specs.Strings.{hex_of, unicode_of, pair_of, unicode_escape, escaped_byte, short_escape, escape, character, part, text_in, more_in, followed_by, after_part, text_after}
 
 -- a byte below 128 is a character
 ascii : (x : ℕ) → x < 128 → is_utf8 (x ∷ []) ≡ true

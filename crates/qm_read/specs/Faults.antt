@@ -1,4 +1,5 @@
--- The value of a text, or its first fault (this project's own rule).
+-- The value of a text or its first fault, as a function of the text: the one that Texts tells by
+-- relations (this project's own rule).
 use Rattle.std.specs.Prelude.{ℕ, List, [], ◌∷◌, length, Result, Ok, Err}
 use Rattle.qm_json.specs.declared.value.Json.{Json}
 use Rattle.qm_read.specs.declared.fault.JsonFault.{JsonFault}

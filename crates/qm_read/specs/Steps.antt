@@ -1,9 +1,10 @@
--- Reading a value token by token: what is open, and what may stand next (this project's own rule).
+-- Reading a value token by token: what is open, and what may stand next. This is how a value or a
+-- fault is computed; which one it is, Spelling and Viable say without it (this project's own rule).
 use Rattle.std.specs.Prelude.{ℕ, ◌+◌, nat_lt, Bool, true, false, cond, ◌&&◌, List, [], ◌∷◌, ◌++◌, length, Result, Ok, Err}
 use Rattle.qm_json.specs.declared.value.Json.{Json}
 use Rattle.qm_json.specs.declared.value.Json.TheVariants as json
 use Rattle.qm_json.specs.Members.{has_name}
-use Rattle.qm_read.specs.declared.TheConstants.{DEPTH}
+use Rattle.qm_frame.specs.declared.step.TheConstants.{MAX_DEPTH}
 use Rattle.qm_read.specs.declared.fault.JsonFault.{JsonFault}
 use Rattle.qm_read.specs.declared.fault.JsonFault.TheVariants.{Expected, Duplicate}
 use Rattle.qm_read.specs.declared.stack.Expect.{Expect}
@@ -54,7 +55,7 @@ value_step s v place = cond (takes_value s.expect) (Ok (put v s.stack)) (Err (Ex
 -- an opener, after which something may stand
 abbrev pub open_step : State → Open → Expect → ℕ → Result State JsonFault
 open_step s top next place =
-    cond (takes_value s.expect && nat_lt (length s.stack) (DEPTH + 1))
+    cond (takes_value s.expect && nat_lt (length s.stack) (MAX_DEPTH + 1))
     (Ok record { stack = top ∷ s.stack; expect = next }) (Err (Expected place))
 
 abbrev pub name_step : List Open → List ℕ → ℕ → Result State JsonFault

@@ -1,10 +1,17 @@
--- Which texts spell a value (RFC 8259, section 2; the limit on nesting is this project's own rule).
-use Rattle.std.specs.Prelude.{ℕ, List}
+-- Which texts spell a value, and which fault any other text has first (RFC 8259, section 2; the
+-- limit on nesting and the places of faults are this project's own rule).
+use Rattle.std.specs.Prelude.{ℕ, List, length}
+use Rattle.qm_frame.specs.declared.step.TheConstants.{MAX_DEPTH}
 use Rattle.qm_json.specs.declared.value.Json.{Json}
-use Rattle.qm_read.specs.declared.TheConstants.{DEPTH}
+use Rattle.qm_read.specs.declared.fault.JsonFault.{JsonFault}
 use Rattle.qm_read.specs.Spelling.{SpellsValue}
 use Rattle.qm_read.specs.Tokens.{tokens_of}
+use Rattle.qm_read.specs.Viable.{FirstFault}
 
 -- the tokens of the text spell the value, nested at most so deep
 abbrev pub Spells : List ℕ → Json → Type 0
-Spells text value = SpellsValue DEPTH (tokens_of text) value
+Spells text value = SpellsValue MAX_DEPTH (tokens_of text) value
+
+-- the tokens of the text have this fault first
+abbrev pub HasFault : List ℕ → JsonFault → Type 0
+HasFault text fault = FirstFault (tokens_of text) (length text) fault

@@ -1,7 +1,7 @@
 -- The first fault of tokens, told by which tokens begin a value (this project's own rule).
 use Rattle.std.specs.Prelude.{ℕ, List, [], ◌∷◌, ◌++◌}
 use Rattle.qm_json.specs.declared.value.Json.{Json}
-use Rattle.qm_read.specs.declared.TheConstants.{DEPTH}
+use Rattle.qm_frame.specs.declared.step.TheConstants.{MAX_DEPTH}
 use Rattle.qm_read.specs.declared.fault.JsonFault.{JsonFault}
 use Rattle.qm_read.specs.declared.fault.JsonFault.TheVariants.{Expected, Duplicate}
 use Rattle.qm_read.specs.declared.token.Token.{Token}
@@ -14,7 +14,7 @@ use Rattle.qm_read.specs.Tokens.{at}
 pub record BeginsValue (ts : List Placed) : Type 0 where
   pub rest : List Placed
   pub value : Json
-  pub is : SpellsValue DEPTH (ts ++ rest) value
+  pub is : SpellsValue MAX_DEPTH (ts ++ rest) value
 
 -- with this token no value begins; of a string, with none in its place
 abbrev pub IsMisplaced : List Placed → Token → ℕ → Type 0
@@ -34,4 +34,4 @@ pub data FirstFault : List Placed → ℕ → JsonFault → Type 0 where
   twice : {n : ℕ} (before rest : List Placed) (name other : List ℕ) (p : ℕ) → (BeginsValue (before ++ at (tokens.Str name) p ∷ []) → ⊥) →
       BeginsValue (before ++ at (tokens.Str other) p ∷ []) → FirstFault (before ++ at (tokens.Str name) p ∷ rest) n (Duplicate p)
   -- the end, where further tokens are wanted
-  short : {n : ℕ} (ts : List Placed) → BeginsValue ts → ((value : Json) → SpellsValue DEPTH ts value → ⊥) → FirstFault ts n (Expected n)
+  short : {n : ℕ} (ts : List Placed) → BeginsValue ts → ((value : Json) → SpellsValue MAX_DEPTH ts value → ⊥) → FirstFault ts n (Expected n)

@@ -3,7 +3,9 @@ ghost use Rattle.qm_read.specs.Feeding.{fed, Finds, begins, moved, stopped, Lies
 ghost use Rattle.qm_read.specs.Steps.{begun};
 
 use crate::JsonFault;
-use crate::lexer::{continues, last_token, lengthen, mark_token, number_token, string_token, word_token};
+use crate::lexer::{
+    continues, last_token, lengthen, mark_token, number_token, string_token, word_token,
+};
 use crate::reader::Reader;
 use crate::token::{Last, Placed};
 use qm_base::{NoMemory, Text};

@@ -18,8 +18,5 @@ pub use reading::{
 };
 pub use taken::Taken;
 
-/// How many arrays and objects may stand one in another.
-pub const DEPTH: usize = 128;
-
 #[cfg(test)]
 mod tests;

@@ -85,13 +85,7 @@ fn after_minus(text: &[u8]) -> &[u8]
 {
     match text {
         [] => text,
-        [first, rest @ ..] => {
-            if *first == b'-' {
-                rest
-            } else {
-                text
-            }
-        }
+        [first, rest @ ..] => { if *first == b'-' { rest } else { text } }
     }
 }
 

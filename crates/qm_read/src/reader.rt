@@ -3,10 +3,11 @@ ghost use Rattle.qm_read.specs.Faults.{whole};
 ghost use Rattle.qm_read.specs.Feeding.{Steps};
 ghost use Rattle.qm_read.specs.Steps.{begun, step, takes_value as of_value, takes_name as of_name, given, after_value as next_after, ends_array as array_end, ends_object as object_end, value_step, open_step, name_step, after_comma as comma_then, left};
 
+use crate::JsonFault;
 use crate::stack::{Expect, Open};
 use crate::token::Token;
-use crate::{DEPTH, JsonFault};
 use qm_base::{NoMemory, Text};
+use qm_frame::MAX_DEPTH;
 use qm_json::{Json, Member, has_member};
 use sqlite_items::Items;
 use std::alloc::Global;
@@ -158,7 +159,7 @@ impl Reader {
     fn open(&mut self, top: Open, next: Expect, place: u64) -> Result<(), JsonFault>
         ensures { Steps (open_step self.old top next place) result self.new }
     {
-        if !takes_value(self.expect) || self.outer.len() >= DEPTH {
+        if !takes_value(self.expect) || self.outer.len() >= MAX_DEPTH {
             return Err(JsonFault::Expected(place));
         }
         let outer = mem::replace(&mut self.current, top);

@@ -1,9 +1,7 @@
-ghost use Rattle.std.specs.Prelude.{ℕ, List, ◌↔◌, ◌≡◌, ◌≢◌, length, IfOk, Ok, Err};
+ghost use Rattle.std.specs.Prelude.{ℕ, List, ◌↔◌, ◌≡◌, ◌≢◌, IfOk, IfErr, Ok, Err};
 ghost use Rattle.qm_json.specs.Cleanness.{IsClean};
 ghost use Rattle.qm_read.specs.Faults.{reading_of};
-ghost use Rattle.qm_read.specs.Texts.{Spells};
-ghost use Rattle.qm_read.specs.Tokens.{tokens_of};
-ghost use Rattle.qm_read.specs.Viable.{FirstFault};
+ghost use Rattle.qm_read.specs.Texts.{HasFault, Spells};
 
 use crate::JsonFault;
 use crate::intake::Intake;
@@ -15,6 +13,8 @@ use std::alloc::Global;
 /// stand there, then whether it is a name that the object has already.
 pub fn read(alloc: Global, text: &[u8]) -> Result<Json, JsonFault>
     ensures value { result ≢ Err JsonFault.Memory → result ≡ reading_of text.now }
+    ensures spelled { IfOk result (Spells text.now) }
+    ensures fault { IfErr result (λ fault. fault ≢ JsonFault.Memory → HasFault text.now fault) }
     ensures clean { IfOk result IsClean }
 {
     let mut intake = Intake::new(alloc);
@@ -32,10 +32,10 @@ pub fn each_value_is_spelled()
     ensures { (text : List ℕ) (value : Json) → (reading_of text ≡ Ok value) ↔ Spells text value }
 {}
 
-/// A text is refused with its first fault: what stands before it begins a value, and with it
-/// nothing does.
+/// A text is refused with a fault exactly where that is its first fault: what stands before it
+/// begins a value, and with it nothing does.
 pub fn each_fault_is_the_first()
-    ensures { (text : List ℕ) (fault : JsonFault) → reading_of text ≡ Err fault → FirstFault (tokens_of text) (length text) fault }
+    ensures { (text : List ℕ) (fault : JsonFault) → (reading_of text ≡ Err fault) ↔ HasFault text fault }
 {}
 
 /// What a text is read as is clean.

@@ -1,6 +1,7 @@
 //! Texts with their values or first faults; the pair of surrogates is that of RFC 8259, section 7.
 
-use crate::{DEPTH, JsonFault, Taken, read};
+use crate::{JsonFault, Taken, read};
+use qm_frame::MAX_DEPTH;
 use std::process::Abort;
 use std::test::Fail;
 
@@ -22,8 +23,14 @@ fn expect(rt: &(impl Abort + AllocGlobal), text: &[u8], told: &str) -> Result<()
 #[test]
 fn values_are_read(rt: HostRuntime) -> Result<(), Fail> {
     let cases: [(&[u8], &str); 20] = [
-        (b"{\"execute\":\"query-version\"}", "{\"execute\": \"query-version\"}"),
-        (b"{'execute':'quit','id':7}", "{\"execute\": \"quit\", \"id\": 7}"),
+        (
+            b"{\"execute\":\"query-version\"}",
+            "{\"execute\": \"query-version\"}",
+        ),
+        (
+            b"{'execute':'quit','id':7}",
+            "{\"execute\": \"quit\", \"id\": 7}",
+        ),
         (b" \t\r\n[ ] \n", "[]"),
         (b"[null,true , false]", "[null, true, false]"),
         (b"{\"a\":{\"b\":[{}]}}", "{\"a\": {\"b\": [{}]}}"),
@@ -35,8 +42,14 @@ fn values_are_read(rt: HostRuntime) -> Result<(), Fail> {
         ("\"\u{E9}\"".as_bytes(), "\"\\u00E9\""),
         (b"'\\u00e9'", "\"\\u00E9\""),
         (b"\"\\uD834\\uDD1E\"", "\"\\uD834\\uDD1E\""),
-        ("\"\u{1D11E}\u{FFFE}\"".as_bytes(), "\"\\uD834\\uDD1E\\uFFFE\""),
-        (b"\"\\\"\\'\\\\\\/\\b\\f\\n\\r\\t\\u0000\"", "\"\\\"'\\\\/\\b\\f\\n\\r\\t\\u0000\""),
+        (
+            "\"\u{1D11E}\u{FFFE}\"".as_bytes(),
+            "\"\\uD834\\uDD1E\\uFFFE\"",
+        ),
+        (
+            b"\"\\\"\\'\\\\\\/\\b\\f\\n\\r\\t\\u0000\"",
+            "\"\\\"'\\\\/\\b\\f\\n\\r\\t\\u0000\"",
+        ),
         (b"'\"'", "\"\\\"\""),
         (b"\"'\"", "\"'\""),
         (b"\"\"", "\"\""),
@@ -120,10 +133,10 @@ fn faults_of_strings_have_their_places(rt: HostRuntime) -> Result<(), Fail> {
 #[test]
 fn nesting_has_its_limit(rt: HostRuntime) -> Result<(), Fail> {
     let mut text = Vec::new(rt.alloc());
-    for _ in 0..DEPTH {
+    for _ in 0..MAX_DEPTH {
         text.push(b'[')?;
     }
-    for _ in 0..DEPTH {
+    for _ in 0..MAX_DEPTH {
         text.push(b']')?;
     }
     assert!(rt; read(rt.alloc(), text.as_slice()).is_ok());
@@ -135,6 +148,11 @@ fn nesting_has_its_limit(rt: HostRuntime) -> Result<(), Fail> {
 #[test]
 fn messages_are_taken(rt: HostRuntime) -> Result<(), Fail> {
     assert!(rt; matches!(Taken::of_message(rt.alloc(), b"{}")?, Taken::Value(_)));
-    assert!(rt; matches!(Taken::of_message(rt.alloc(), b"{]")?, Taken::BadText(JsonFault::Expected(1))));
+    assert!(rt;
+        matches!(
+            Taken::of_message(rt.alloc(), b"{]")?,
+            Taken::BadText(JsonFault::Expected(1))
+        )
+    );
     Ok(())
 }

@@ -1,4 +1,4 @@
-use Rattle.qm_read.proofs.CleanValues.{read-told}
+use Rattle.qm_read.proofs.Results.{read-told}
 use Rattle.qm_read.proofs.reading.memory_is_no_fault.Goals as goal
 
 pub returns : goal.returns

@@ -9,4 +9,5 @@ use Rattle.qm_read.proofs.reading.read.Given as goal
 abbrev pub invariant-loop-i : goal.invariant-loop-i
 invariant-loop-i l = record {
   before : LiesBefore l.intake.last l.i;
-  left : fed l.intake.last (Ok l.intake.state) (numbered l.i (drop l.i l.text)) (length l.text) ≡ fed Whole (Ok begun) (numbered 0 l.text) (length l.text) }
+  left : fed l.intake.last (Ok l.intake.state) (numbered l.i (drop l.i l.text)) (length l.text) ≡ fed Whole (Ok begun) (numbered 0 l.text) (length l.text);
+}

@@ -9,8 +9,9 @@ unfolding text_of
 loop-i-init c = record {
   within = omega arith;
   decoded = ap (λ (out : List ℕ). followed_by out (text_after 0 (c.args.start + 1 + 0) c.args.raw.now)) c.new-out.ensures
-    ∙ no_parts c.args.raw.now (c.args.start + 1 + 0)
-    ∙ ap (λ (place : ℕ). text_after 0 place c.args.raw.now) (omega arith) }
+      ∙ no_parts c.args.raw.now (c.args.start + 1 + 0)
+      ∙ ap (λ (place : ℕ). text_after 0 place c.args.raw.now) (omega arith);
+}
 
 pub loop-i-preserved : goal.loop-i-preserved
 loop-i-preserved c =
@@ -18,4 +19,5 @@ loop-i-preserved c =
     let some : 0 < length c.past-rest.result.now = omega arith in
     record {
       within = omega (arith, c.in-Ok.ensures.within, c.length_after_first.ensures);
-      decoded = next_part _ c.args.raw.now c.loop-i.out c.append.new.text c.past-rest.result.now c.args.start c.loop-i.i c.length_after_first.result c.in-Ok.part c.past-rest.ensures some c.in-Ok.ensures.value c.length_after_first.ensures c.in-Ok-append.ensures c.loop-i.invariant.decoded }
+      decoded = next_part _ c.args.raw.now c.loop-i.out c.append.new.text c.past-rest.result.now c.args.start c.loop-i.i c.length_after_first.result c.in-Ok.part c.past-rest.ensures some c.in-Ok.ensures.value c.length_after_first.ensures c.in-Ok-append.ensures c.loop-i.invariant.decoded;
+    }

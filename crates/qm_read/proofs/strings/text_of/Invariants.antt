@@ -6,7 +6,8 @@ use Rattle.qm_read.proofs.strings.text_of.Given as goal
 abbrev pub invariant-loop-i : goal.invariant-loop-i
 invariant-loop-i l = record {
   within : l.i ≤ length l.raw;
-  decoded : followed_by l.out (text_after 0 (l.start + 1 + l.i) (drop l.i l.raw)) ≡ text_of l.start l.raw }
+  decoded : followed_by l.out (text_after 0 (l.start + 1 + l.i) (drop l.i l.raw)) ≡ text_of l.start l.raw;
+}
 
 abbrev pub decreases-loop-i : goal.decreases-loop-i
 decreases-loop-i l = length l.raw - l.i

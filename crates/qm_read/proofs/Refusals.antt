@@ -1,0 +1,112 @@
+-- How a token is refused in a state: as one that may not stand there, or as a name that is there.
+use Rattle.std.proofs.Common.{◌≡◌, ℕ, ◌+◌, nat_lt, Bool, true, false, cond, ◌&&◌, ◌⊎◌, inl, inr, List, [], ◌∷◌, length, Result, Ok, Err, refl}
+use Rattle.qm_frame.specs.declared.step.TheConstants.{MAX_DEPTH}
+use Rattle.qm_json.specs.declared.value.Json.TheVariants as json
+use Rattle.qm_json.specs.declared.value.Member.{Member}
+use Rattle.qm_json.specs.Members.{has_name}
+use Rattle.qm_read.specs.declared.fault.JsonFault.{JsonFault}
+use Rattle.qm_read.specs.declared.fault.JsonFault.TheVariants.{Expected, Duplicate}
+use Rattle.qm_read.specs.declared.stack.Expect.{Expect}
+use Rattle.qm_read.specs.declared.stack.Expect.TheVariants.{Colon, CommaOrEnd}
+use Rattle.qm_read.specs.declared.stack.Open.{Open}
+use Rattle.qm_read.specs.declared.stack.Open.TheVariants.{Top, Arr, Obj, Whole}
+use Rattle.qm_read.specs.declared.token.Token.{Token}
+use Rattle.qm_read.specs.declared.token.Token.TheVariants as tokens
+use Rattle.qm_read.specs.Steps.{State, step, takes_value, takes_name, put, value_step, name_step, ends_array, ends_object, close_array, close_object, comma_step, colon_step}
+use Rattle.qm_read.specs.Faults.{whole}
+use Rattle.qm_read.proofs.Fresh.{fresh, fresh_name}
+
+-- a token is refused as one that something else would have to stand for
+abbrev pub Refuses : Result State JsonFault → ℕ → Type 0
+Refuses (Ok s) p = Unit {0}
+Refuses (Err f) p = f ≡ Expected p
+
+unless : (b : Bool) (r : Result State JsonFault) (p : ℕ) → Refuses r p → Refuses (cond b r (Err (Expected p))) p
+unless true r p h = h
+unless false r p h = refl
+
+closes_array : (stack : List Open) (p : ℕ) → Refuses (close_array stack p) p
+closes_array [] p = refl
+closes_array (Arr items ∷ []) p = refl
+closes_array (Arr items ∷ next ∷ outer) p = tt
+closes_array (Top ∷ outer) p = refl
+closes_array (Obj members name ∷ outer) p = refl
+closes_array (Whole v ∷ outer) p = refl
+
+closes_object : (stack : List Open) (p : ℕ) → Refuses (close_object stack p) p
+closes_object [] p = refl
+closes_object (Obj members name ∷ []) p = refl
+closes_object (Obj members name ∷ next ∷ outer) p = tt
+closes_object (Top ∷ outer) p = refl
+closes_object (Arr items ∷ outer) p = refl
+closes_object (Whole v ∷ outer) p = refl
+
+takes_comma : (e : Expect) (stack : List Open) (p : ℕ) → Refuses (comma_step e stack p) p
+takes_comma CommaOrEnd stack p = tt
+takes_comma _ stack p = refl
+
+takes_colon : (e : Expect) (stack : List Open) (p : ℕ) → Refuses (colon_step e stack p) p
+takes_colon Colon stack p = tt
+takes_colon _ stack p = refl
+
+-- a token other than a string, and not wrong in itself
+abbrev pub IsPlain : Token → Type 0
+IsPlain (tokens.Bad fault) = ⊥
+IsPlain (tokens.Str text) = ⊥
+IsPlain _ = Unit {0}
+
+pub refuses : (s : State) (k : Token) (p : ℕ) → IsPlain k → Refuses (step s k p) p
+refuses s (tokens.Bad fault) p plain = absurd plain
+refuses s (tokens.Str text) p plain = absurd plain
+refuses s tokens.Null p plain = unless (takes_value s.expect) _ p tt
+refuses s (tokens.Bool b) p plain = unless (takes_value s.expect) _ p tt
+refuses s (tokens.Int n) p plain = unless (takes_value s.expect) _ p tt
+refuses s (tokens.Num text) p plain = unless (takes_value s.expect) _ p tt
+refuses s tokens.OpenArray p plain = unless (takes_value s.expect && nat_lt (length s.stack) (MAX_DEPTH + 1)) _ p tt
+refuses s tokens.OpenObject p plain = unless (takes_value s.expect && nat_lt (length s.stack) (MAX_DEPTH + 1)) _ p tt
+refuses s tokens.CloseArray p plain = unless (ends_array s.expect) _ p (closes_array s.stack p)
+refuses s tokens.CloseObject p plain = unless (ends_object s.expect) _ p (closes_object s.stack p)
+refuses s tokens.Comma p plain = takes_comma s.expect s.stack p
+refuses s tokens.Colon p plain = takes_colon s.expect s.stack p
+
+-- strings are refused: this one as a name that is there, while another is taken; or all of them
+pub record Taken (g : List ℕ → Result State JsonFault) : Type 0 where
+  pub other : List ℕ
+  pub next : State
+  pub is : g other ≡ Ok next
+
+abbrev pub StrRefused : (List ℕ → Result State JsonFault) → ℕ → JsonFault → Type 0
+StrRefused g p f = ((f ≡ Duplicate p) × Taken g) ⊎ ((f ≡ Expected p) × ((other : List ℕ) → g other ≡ Err (Expected p)))
+
+known : (b : Bool) (members : List Member) (outer : List Open) (name : List ℕ) (p : ℕ) (f : JsonFault) → cond {A = Result State JsonFault} b (Err (Duplicate p)) (Ok (record { stack = Obj members name ∷ outer; expect = Colon })) ≡ Err f → f ≡ Duplicate p
+known true members outer name p f e = cc
+known false members outer name p f e = cc
+
+new_name : (members : List Member) (outer : List Open) (p : ℕ) → Taken (λ other. cond (has_name members other) (Err (Duplicate p)) (Ok (record { stack = Obj members other ∷ outer; expect = Colon })))
+new_name members outer p = record { other = fresh members; next = record { stack = Obj members (fresh members) ∷ outer; expect = Colon }; is = rw (fresh_name members) refl }
+
+name_refused : (stack : List Open) (name : List ℕ) (p : ℕ) (f : JsonFault) → name_step stack name p ≡ Err f → StrRefused (λ other. name_step stack other p) p f
+name_refused [] name p f e = inr (cc, λ other. refl)
+name_refused (Obj members old ∷ outer) name p f e = inl (known (has_name members name) members outer name p f e, new_name members outer p)
+name_refused (Top ∷ outer) name p f e = inr (cc, λ other. refl)
+name_refused (Arr items ∷ outer) name p f e = inr (cc, λ other. refl)
+name_refused (Whole v ∷ outer) name p f e = inr (cc, λ other. refl)
+
+value_refused : (b : Bool) (stack : List Open) (name : List ℕ) (p : ℕ) (f : JsonFault) → cond b (Ok (put (json.Str name) stack)) (Err (Expected p)) ≡ Err f → StrRefused (λ other. cond b (Ok (put (json.Str other) stack)) (Err (Expected p))) p f
+value_refused true stack name p f e = cc
+value_refused false stack name p f e = inr (cc, λ other. refl)
+
+name_or_value : (b : Bool) (s : State) (name : List ℕ) (p : ℕ) (f : JsonFault) → cond b (name_step s.stack name p) (value_step s (json.Str name) p) ≡ Err f → StrRefused (λ other. cond b (name_step s.stack other p) (value_step s (json.Str other) p)) p f
+name_or_value true s name p f e = name_refused s.stack name p f e
+name_or_value false s name p f e = value_refused (takes_value s.expect) s.stack name p f e
+
+pub string_refused : (s : State) (name : List ℕ) (p : ℕ) (f : JsonFault) → step s (tokens.Str name) p ≡ Err f → StrRefused (λ other. step s (tokens.Str other) p) p f
+string_refused s name p f e = name_or_value (takes_name s.expect) s name p f e
+
+-- what is not whole at the end is refused there
+pub too_short : (stack : List Open) (n : ℕ) (f : JsonFault) → whole stack n ≡ Err f → f ≡ Expected n
+too_short [] n f e = cc
+too_short (Whole v ∷ outer) n f e = cc
+too_short (Top ∷ outer) n f e = cc
+too_short (Arr items ∷ outer) n f e = cc
+too_short (Obj members name ∷ outer) n f e = cc
