@@ -10,6 +10,7 @@ pub mod lines;
 pub mod monitor;
 pub mod offers;
 mod outbox;
+mod refusals;
 mod replies;
 pub mod requests;
 pub mod verdicts;
