@@ -11,6 +11,7 @@ pub mod lines;
 pub mod monitor;
 pub mod offers;
 mod outbox;
+mod refusals;
 mod replies;
 pub mod requests;
 mod sessions;

@@ -1,5 +1,4 @@
-use Rattle.std.proofs.Common.{◌≡◌, ◌∙◌, ℕ, ◌+◌, ◌<◌, length, arith}
-use Rattle.std.proofs.lemmas.Grind.{common_steps}
+use Rattle.std.proofs.Common.{◌≡◌, ◌∙◌, ◌+◌, arith}
 use Rattle.qm_base.proofs.Telling.{part-after, part-so_far, puts-part, told_more-next}
 use Rattle.qm_core.specs.Texts.{entry_text_of}
 use Rattle.qm_history.proofs.Numbering.{text-next, text-so_far, text-through}
