@@ -13,7 +13,7 @@ use Rattle.qm_read.specs.Faults.{reading_of}
 use Rattle.qm_read.specs.Inputs.{taken_of, read_as}
 use Rattle.qm_read.specs.declared.fault.JsonFault.{JsonFault}
 use Rattle.qm_read.specs.declared.fault.JsonFault.TheVariants.{Expected, Duplicate, BadEscape, BadUtf8, Memory}
-use Rattle.qm_read.proofs.CleanValues.{read-clean}
+use Rattle.qm_read.proofs.Results.{value-clean}
 use Rattle.qm_script.specs.Fed.{fed_inputs_of, input_of, text_input_of}
 
 pub fed_inputs_of_nothing : (bytes : List ℕ) → bytes ≡ [] → [] ≡ fed_inputs_of bytes
@@ -32,7 +32,7 @@ clean_read (Ok value) clean = clean value refl
 clean_read (Err fault) clean = clean_text fault
 
 clean_frame : (frame : Result (List ℕ) FrameFault) → IsCleanInput (input_of (taken_of frame))
-clean_frame (Ok message) = clean_read (reading_of message) (λ value e. read-clean message value e)
+clean_frame (Ok message) = clean_read (reading_of message) (λ value e. value-clean message value e)
 clean_frame (Err fault) = tt
 
 clean_frames : (frames : List (Result (List ℕ) FrameFault)) (place : ℕ) (other : Input) → place < length frames →
