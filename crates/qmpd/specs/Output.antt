@@ -39,13 +39,19 @@ abbrev pub replay_of : List ℕ → Option (List ℕ) → Output
 replay_of name None = missing name
 replay_of name (Some script) = replayed (played_of MOST_ENTRIES script)
 
-abbrev pub run_of : Option (List ℕ) → List NamedText → Output
-run_of None files = usage
-run_of (Some name) files = replay_of name (text_of name files)
+-- the output for a script to be replayed, by what the library answers for it
+abbrev pub run_with : Option (List ℕ) → Option (List ℕ) → Output
+run_with None answer = usage
+run_with (Some name) answer = replay_of name answer
+
+-- what files answer for the script
+abbrev pub answer_of : Option (List ℕ) → List NamedText → Option (List ℕ)
+answer_of None files = None
+answer_of (Some name) files = text_of name files
 
 -- the status and the bytes for words and files
 abbrev pub output_of : List (List ℕ) → List NamedText → Output
-output_of words files = run_of (script_of words) files
+output_of words files = run_with (script_of words) (answer_of (script_of words) files)
 
 -- the line that names a file whose reading failed
 abbrev pub cannot_read : List ℕ → List ℕ

@@ -32,6 +32,11 @@ fn main(rt: HostRuntime) -> ExitCode {
             &mut library,
             &mut sink,
         )),
-        Err(_) => ExitCode::from(run_offline(rt.alloc(), &[], &mut library, &mut sink)),
+        Err(fault) => {
+            if fault.kind() == io::ErrorKind::OutOfMemory {
+                return ExitCode::from(1);
+            }
+            ExitCode::from(run_offline(rt.alloc(), &[], &mut library, &mut sink))
+        }
     }
 }
