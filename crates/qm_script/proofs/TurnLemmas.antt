@@ -41,7 +41,7 @@ pub stop_finishes : (n : ℕ) (old : Playing) (script line later : List ℕ) (tu
 stop_finishes n old script line later turn stop whole lines from turns stopped =
     let first : played_from old.entries n old.played (line ∷ lines_of later) ≡ whole = ap (λ (ls : List (List ℕ)). played_from old.entries n old.played ls) (sym lines) ∙ from in
     subst (λ (w : Ended). Finishes w record { player = turn.player; refused = Some record { line = n; stop = stop } }) first
-      (refused n old (line_step old.entries n old.played line) (λ next. played_from old.entries (n + 1) next (lines_of later)) turn stop turns stopped)
+    (refused n old (line_step old.entries n old.played line) (λ next. played_from old.entries (n + 1) next (lines_of later)) turn stop turns stopped)
 
 -- it goes on after a line that is played
 pub line_goes_on : (n : ℕ) (old : Playing) (script line later : List ℕ) (turn : Turn) (whole : Ended) →
@@ -50,6 +50,7 @@ pub line_goes_on : (n : ℕ) (old : Playing) (script line later : List ℕ) (tur
     (played_from turn.player.entries (n + 1) turn.player.played (lines_of later) ≡ whole) × (n ≤ MOST_LINES)
 line_goes_on n old script line later turn whole lines from turns went =
     let first : played_from old.entries n old.played (line ∷ lines_of later) ≡ whole = ap (λ (ls : List (List ℕ)). played_from old.entries n old.played ls) (sym lines) ∙ from in
-    let next = played n old (line_step old.entries n old.played line) (λ next. played_from old.entries (n + 1) next (lines_of later)) turn turns went in
-    ( ap (λ (entries : ℕ). played_from entries (n + 1) turn.player.played (lines_of later)) next.1 ∙ sym next.0 ∙ first
-    , within n old (nat_lt MOST_LINES n) (ordered old.entries old.played line (order_of line)) turn refl turns went )
+    let next = played n old (line_step old.entries n old.played line) (λ next. played_from old.entries (n + 1) next (lines_of later)) turn turns went in (
+      ap (λ (entries : ℕ). played_from entries (n + 1) turn.player.played (lines_of later)) next.1 ∙ sym next.0 ∙ first,
+      within n old (nat_lt MOST_LINES n) (ordered old.entries old.played line (order_of line)) turn refl turns went,
+    )

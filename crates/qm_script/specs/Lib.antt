@@ -1,6 +1,7 @@
 pub mod Endings
 pub mod Fed
 pub mod Kept
+pub mod Laws
 pub mod Lines
 pub mod Orders
 pub mod Players

@@ -4,6 +4,7 @@
 pub mod closings;
 pub mod endings;
 pub mod feeder;
+pub mod laws;
 pub mod lines;
 pub mod orders;
 pub mod player;

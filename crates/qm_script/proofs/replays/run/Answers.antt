@@ -5,9 +5,9 @@ use Rattle.qm_script.proofs.replays.run.Goals as goal
 pub returns-in-Some : goal.returns-in-Some
 returns-in-Some c =
     stop_finishes (c.loop-rest.number + 1) c.loop-rest.player c.loop-rest.rest.now c.first_line.result.0.now c.first_line.result.1.now
-      c.in_ok-next.field-0 c.in-Some.stop _ c.first_line.ensures.lines c.loop-rest.invariant.0 c.in_ok-next.ensures c.in-Some.is
+    c.in_ok-next.field-0 c.in-Some.stop _ c.first_line.ensures.lines c.loop-rest.invariant.0 c.in_ok-next.ensures c.in-Some.is
 
 pub loop-rest-preserved : goal.loop-rest-preserved
 loop-rest-preserved c =
     line_goes_on (c.loop-rest.number + 1) c.loop-rest.player c.loop-rest.rest.now c.first_line.result.0.now c.first_line.result.1.now
-      c.in_ok-next.field-0 _ c.first_line.ensures.lines c.loop-rest.invariant.0 c.in_ok-next.ensures c.in_default.is
+    c.in_ok-next.field-0 _ c.first_line.ensures.lines c.loop-rest.invariant.0 c.in_ok-next.ensures c.in_default.is

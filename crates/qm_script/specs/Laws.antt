@@ -1,0 +1,8 @@
+-- What holds of every script (this project's own rule).
+use Rattle.std.specs.Prelude.{ℕ, List}
+use Rattle.qm_script.specs.Playing.{played_of}
+use Rattle.qm_core.specs.declared.entries.Entry.{Entry}
+
+-- the journal that a script plays
+abbrev pub journal_of : ℕ → List ℕ → List Entry
+journal_of entries script = (played_of entries script).played.journal
