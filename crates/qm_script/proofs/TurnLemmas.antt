@@ -19,7 +19,7 @@ refused n old (Ok next) go turn stop turns stopped = absurd (let e : None ≡ So
 refused n old (Err why) go turn stop turns stopped =
     let same : Some stop ≡ Some why = sym stopped ∙ turns.0 in
     let is : stop ≡ why = cc in
-    record { journal = turns.1; refused = rw is refl }
+    record { journal = ap (λ (p : Playing). p.played.journal) turns.1; refused = rw is refl }
 
 played : (n : ℕ) (old : Playing) (step : Result Played Stop) (go : Played → Ended) (turn : Turn) →
     Turns old step turn → turn.stop ≡ None →

@@ -16,7 +16,7 @@ shown p = record { entries = p.monitor.limits.entries; played = record { journal
 abbrev pub IsFed : Fields → Type 0
 IsFed p = sessions_of (past_of p.monitor.journal) ≡ cond (is_some p.feeder) (1 ∷ []) []
 
--- the line was played, or refused and left the journal as it was
+-- the line was played, or refused and left the player as it was
 abbrev pub Turns : Playing → Result Played Stop → Turn → Type 0
 Turns old (Ok next) turn = (turn.stop ≡ None) × (turn.player ≡ record { entries = old.entries; played = next })
-Turns old (Err stop) turn = (turn.stop ≡ Some stop) × (turn.player.played.journal ≡ old.played.journal)
+Turns old (Err stop) turn = (turn.stop ≡ Some stop) × (turn.player ≡ old)
