@@ -7,3 +7,6 @@ pub mod memory;
 
 pub use library::{Library, LibraryFault};
 pub use memory::{FileList, LibraryFile, MemoryLibrary};
+
+#[cfg(test)]
+mod tests;

@@ -15,3 +15,6 @@ pub use numerals::number;
 pub use reserved::ReservedList;
 pub use shared::Shared;
 pub use text::{NoMemory, Text};
+
+#[cfg(test)]
+mod tests;

@@ -7,3 +7,6 @@ pub mod mode;
 
 pub use greetings::{greeting, version};
 pub use mode::{Lane, Mode, bound};
+
+#[cfg(test)]
+mod tests;

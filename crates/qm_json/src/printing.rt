@@ -11,7 +11,7 @@ use qm_base::{NoMemory, Text};
 impl Json {
     /// Appends the value's text (RFC 8259): a space after each comma and colon, and in strings an
     /// escape for whatever is not printable ASCII. U+FFFD is printed for each part of a string
-    /// that is not UTF-8. After an error a part of the text was appended.
+    /// that is not UTF-8. After want of memory, what is there begins what would be there.
     pub fn write_text(&self, out: &mut Text) -> Result<(), NoMemory>
         ensures { Writes out.old (printed self.now) result out.new }
     {
