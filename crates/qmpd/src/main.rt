@@ -3,6 +3,8 @@
 
 mod offline;
 mod outside;
+#[cfg(test)]
+mod tests;
 mod words;
 
 use offline::run_offline;
