@@ -9,7 +9,7 @@ use Rattle.qm_read.specs.declared.token.Last.TheVariants.{Whole, Number, Word, S
 use Rattle.qm_read.specs.declared.token.Placed.{Placed}
 use Rattle.qm_read.specs.Bytes.{Byte, numbered}
 use Rattle.qm_read.specs.Tokens.{found, closing, tokens_in, tokens_of}
-use Rattle.qm_read.specs.Steps.{State, begun}
+use Rattle.qm_read.specs.Stacks.{State, begun}
 use Rattle.qm_read.specs.Faults.{run, ended, reading, reading_of}
 use Rattle.qm_read.specs.Feeding.{begins, moved, fed, LiesBefore}
 use Rattle.qm_read.specs.Strings.{ends_string}

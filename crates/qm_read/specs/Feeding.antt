@@ -11,7 +11,7 @@ use Rattle.qm_frame.specs.Bytes.{is_space, begins_number, in_number, is_letter, 
 use Rattle.qm_read.specs.Bytes.{Byte}
 use Rattle.qm_read.specs.Strings.{takes_next, ends_string}
 use Rattle.qm_read.specs.Tokens.{at, number_token, word_token, mark_token, ended_string, closing}
-use Rattle.qm_read.specs.Steps.{State}
+use Rattle.qm_read.specs.Stacks.{State}
 use Rattle.qm_read.specs.Faults.{on, run, ended}
 
 -- a byte at which no piece goes on

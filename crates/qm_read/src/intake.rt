@@ -1,6 +1,6 @@
 ghost use Rattle.std.specs.Prelude.{◌≡◌, ◌≢◌, [], ◌∷◌, IfOk, IfErr, Ok, Err};
 ghost use Rattle.qm_read.specs.Feeding.{fed, Finds, begins, moved, stopped, LiesBefore};
-ghost use Rattle.qm_read.specs.Steps.{begun};
+ghost use Rattle.qm_read.specs.Stacks.{begun};
 
 use crate::JsonFault;
 use crate::lexer::{
