@@ -63,7 +63,8 @@ impl Intake {
 
     /// Takes a byte at which no piece goes on.
     fn begin(&mut self, byte: u8, place: u64) -> Result<(), JsonFault>
-        ensures { Finds self.old.state (begins record { code = byte; place = place }) result self.new }
+        ensures { let x = record { code = byte; place = place } in
+            Finds self.old.state (begins x) result self.new }
     {
         if is_space(byte) {
             self.last = Last::Whole;
@@ -86,7 +87,8 @@ impl Intake {
     /// Ends the piece before the byte, or with it.
     fn stop(&mut self, byte: u8, place: u64) -> Result<(), JsonFault>
         requires { LiesBefore self.old.last place }
-        ensures { Finds self.old.state (stopped self.old.last record { code = byte; place = place }) result self.new }
+        ensures { let x = record { code = byte; place = place } in
+            Finds self.old.state (stopped self.old.last x) result self.new }
     {
         match mem::replace(&mut self.last, Last::Whole) {
             Last::Whole => self.begin(byte, place),
@@ -111,7 +113,8 @@ impl Intake {
     /// Takes the next byte, which stands at this place.
     pub fn push(&mut self, byte: u8, place: u64) -> Result<(), JsonFault>
         requires { LiesBefore self.old.last place }
-        ensures { Finds self.old.state (moved self.old.last record { code = byte; place = place }) result self.new }
+        ensures { let x = record { code = byte; place = place } in
+            Finds self.old.state (moved self.old.last x) result self.new }
     {
         if continues(&self.last, byte) {
             match lengthen(&mut self.last, byte) {
@@ -126,7 +129,8 @@ impl Intake {
     /// The value, if the bytes so far are those of one.
     pub fn finish(self, length: u64) -> Result<Json, JsonFault>
         requires { LiesBefore self.last length }
-        ensures { result ≢ Err JsonFault.Memory → result ≡ fed self.last (Ok self.state) [] length }
+        ensures { result ≢ Err JsonFault.Memory →
+            result ≡ fed self.last (Ok self.state) [] length }
     {
         let Intake {
             alloc,
