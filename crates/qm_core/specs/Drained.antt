@@ -1,5 +1,5 @@
 -- Sessions of which all was answered and handed out (this project's own rule).
-use Rattle.std.specs.Prelude.{ℕ, ◌==◌, Bool, not, ◌&&◌, List, length}
+use Rattle.std.specs.Prelude.{ℕ, ◌==◌, Bool, ◌&&◌, List, length}
 use Rattle.qm_core.specs.Standing.{is_open, is_ended, in_flight_of}
 use Rattle.qm_core.specs.Transcript.{untaken_of}
 use Rattle.qm_core.specs.declared.entries.Entry.{Entry}

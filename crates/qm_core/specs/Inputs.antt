@@ -1,5 +1,5 @@
 -- What an input says (QMP specification, "Issuing Commands").
-use Rattle.std.specs.Prelude.{ℕ, Bool, true, false, ◌||◌, List, [], ◌∷◌, codes, Option, Some, None, unwrap_or, find}
+use Rattle.std.specs.Prelude.{ℕ, Bool, true, false, ◌||◌, List, codes, Option, Some, None, find}
 use Rattle.std.specs.Option.{option_and_then}
 use Rattle.std.specs.Str.{bytes_eq}
 use Rattle.qm_json.specs.declared.value.Json.{Json, out-Json}

@@ -1,8 +1,10 @@
 -- The steps of a monitor: each is answered by its first refusal, or by its entry (this project's own rule).
-use Rattle.std.specs.Prelude.{◌≡◌, ℕ, ◌+◌, ◌==◌, nat_le, max, Bool, true, false, not, cond, ◌&&◌, ◌||◌, List, [], ◌∷◌, ◌++◌, length, Option, Some, None, is_some, is_none, unwrap_or}
+use Rattle.std.specs.Prelude.{◌≡◌, ℕ, ◌+◌, ◌==◌, nat_le, max, Bool, false, cond, ◌&&◌, ◌||◌, List, [], ◌∷◌, ◌++◌, length, Option, Some, None, is_some, is_none, refl}
+use Rattle.std.specs.Coded.{Coded, code_by, coded×, coded_list, coded_ℕ}
 use Rattle.qm_caps.specs.Modes.{bound_of}
 use Rattle.qm_caps.specs.declared.mode.Lane.TheVariants.{InBand}
 use Rattle.qm_core.specs.Drained.{is_drained}
+use Rattle.qm_core.specs.Inputs.{IsCleanInput}
 use Rattle.qm_core.specs.Legal.{past_of}
 use Rattle.qm_core.specs.Order.{reply_of}
 use Rattle.qm_core.specs.Standing.{sessions_of, was_opened, is_dropped, is_ended, open_count_of, admitted_of, in_flight_of, mode_of, running_of, starting_of, named_of, last_moment_of}
@@ -28,6 +30,11 @@ pub data Step : Type 0 where
   End : ℕ → Step
   Drop : ℕ → Cause → Step
 
+-- an input in it is clean
+abbrev pub IsCleanStep : Step → Type 0
+IsCleanStep (Admit s input) = IsCleanInput input
+IsCleanStep _ = Unit {0}
+
 abbrev pub start_entry : Option Started → Entry
 start_entry None = entry.Start 0 0
 start_entry (Some q) = entry.Start q.session q.number
@@ -50,11 +57,13 @@ full_refusal entries past e = cond (nat_le (length past + 1 + open_count_of (e �
 abbrev pub session_refusal : ℕ → List Entry → Option StepFault → Option StepFault
 session_refusal s past others = cond (was_opened s past) (cond (is_dropped s past) (Some Closed) others) (Some NoSession)
 
+-- the request has the session and the number
+abbrev pub names : ℕ → ℕ → Option Started → Bool
+names s k None = false
+names s k (Some q) = q.session == s && q.number == k
+
 abbrev pub is_running : ℕ → ℕ → List Entry → Bool
-is_running s k past = names s k (named_of (running_of past)) where
-  names : ℕ → ℕ → Option Started → Bool
-  names s k None = false
-  names s k (Some q) = q.session == s && q.number == k
+is_running s k past = names s k (named_of (running_of past))
 
 -- the cause does not hold
 abbrev pub cause_refusal : Cause → Bool → Option StepFault
@@ -100,3 +109,8 @@ pub record Next (old : Shown) (step : Step) (fault : Option StepFault) (new : Sh
   pub answer : fault ≡ refusal_of old.limits.entries (past_of old.journal) step
   pub journal : new.journal ≡ continued fault old.journal (entry_of (past_of old.journal) step)
   pub limits : new.limits ≡ old.limits
+
+-- it is stored as the limit and the journal
+abbrev pub shown_code : Coded Entry → Coded Shown
+shown_code code =
+    code_by (ℕ × List Entry) (coded× coded_ℕ (coded_list code)) (λ s. (s.limits.entries, s.journal)) (λ p. record { limits = record { entries = p.0 }; journal = p.1 }) (λ _. refl)

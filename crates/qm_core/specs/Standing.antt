@@ -1,6 +1,6 @@
 -- What stands in a journal (this project's own rule).
 -- "past" is the entries before a place, the newest first.
-use Rattle.std.specs.Prelude.{ℕ, ◌+◌, ◌==◌, nat_le, max, Bool, true, false, not, cond, ◌&&◌, ◌||◌, List, [], ◌∷◌, ◌++◌, length, codes, filter, find, count_by, Option, Some, None, is_none, slice_get, option_map, unwrap_or}
+use Rattle.std.specs.Prelude.{ℕ, ◌+◌, ◌==◌, nat_le, max, Bool, false, not, cond, ◌&&◌, List, [], ◌∷◌, ◌++◌, length, codes, filter, find, count_by, Option, Some, None, slice_get, option_map, unwrap_or}
 use Rattle.std.specs.List.{list_any, list_all}
 use Rattle.std.specs.Option.{option_and_then}
 use Rattle.std.specs.Str.{bytes_eq}
@@ -9,7 +9,7 @@ use Rattle.qm_caps.specs.declared.mode.Mode.TheVariants.{Negotiating, Command}
 use Rattle.qm_core.specs.Inputs.{command_of}
 use Rattle.qm_core.specs.Replies.{is_return}
 use Rattle.qm_core.specs.declared.entries.Entry.{Entry}
-use Rattle.qm_core.specs.declared.entries.Entry.TheVariants.{Open, Admit, Start, Done, Take, Eof, Drop}
+use Rattle.qm_core.specs.declared.entries.Entry.TheVariants.{Open, Admit, Start, Done, Eof, Drop}
 use Rattle.qm_core.specs.declared.requests.Request.{Request}
 use Rattle.qm_core.specs.declared.requests.Started.{Started}
 

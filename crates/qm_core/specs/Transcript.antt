@@ -5,7 +5,7 @@ use Rattle.qm_json.specs.Printing.{printed}
 use Rattle.qm_caps.specs.Greetings.{greeting_value}
 use Rattle.qm_core.specs.Standing.{is_open}
 use Rattle.qm_core.specs.declared.entries.Entry.{Entry}
-use Rattle.qm_core.specs.declared.entries.Entry.TheVariants.{Open, Admit, Start, Done, Take, Eof, Drop}
+use Rattle.qm_core.specs.declared.entries.Entry.TheVariants.{Open, Done, Take}
 
 -- the transcript: the greeting at its opening, and each reply to it while it is open
 abbrev pub transcript_of : ℕ → List Entry → List (List ℕ)

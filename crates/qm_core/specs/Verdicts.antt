@@ -1,7 +1,7 @@
 -- The verdict on a request: the first check that it fails, or the command that takes effect (QMP
 -- specification, "Issuing Commands" and "Capabilities Negotiation"; the order of the checks is this
 -- project's own rule).
-use Rattle.std.specs.Prelude.{ℕ, Bool, true, false, not, cond, ◌&&◌, ◌||◌, List, [], ◌∷◌, codes, Option, Some, None, is_some, is_none, unwrap_or, option_map, find, slice_get}
+use Rattle.std.specs.Prelude.{ℕ, Bool, true, false, not, cond, ◌&&◌, ◌||◌, List, [], ◌∷◌, codes, Option, Some, None, is_none, unwrap_or, option_map, find, slice_get}
 use Rattle.std.specs.Option.{option_and_then}
 use Rattle.std.specs.Str.{bytes_eq}
 use Rattle.qm_json.specs.declared.value.Json.{Json}

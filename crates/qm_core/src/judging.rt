@@ -1,8 +1,8 @@
-ghost use Rattle.std.specs.Prelude.{◌≡◌, ◌&&◌, not, find, [], ◌∷◌, codes, option_map, unwrap_or, IfOk};
+ghost use Rattle.std.specs.Prelude.{◌≡◌, ◌&&◌, not, find, [], ◌∷◌, codes, IfOk};
 ghost use Rattle.std.specs.Option.{option_and_then, option_copied};
 ghost use Rattle.qm_json.specs.Members.{has_name, member_of, members_of};
 ghost use Rattle.qm_core.specs.Inputs.{command_name_of, is_object, is_verb, string_of};
-ghost use Rattle.qm_core.specs.Verdicts.{arguments_no_object, arguments_of, first_of, is_expected, is_negotiating, known_command as command_of_name, malformed, may_be_out_of_band, misplaced, request_verdict_of, run_or, unexpected_argument, unexpected_member, verb_no_string, verdict_of};
+ghost use Rattle.qm_core.specs.Verdicts.{arguments_no_object, arguments_of, first_of, is_expected, is_negotiating, known_command as command_of_name, malformed, may_be_out_of_band, misplaced, request_verdict_of, run_or, verb_no_string, verdict_of};
 
 use crate::inputs::Input;
 use crate::verdicts::{Command, Refusal, Verdict};
@@ -72,7 +72,8 @@ fn verb(members: &[Member]) -> Option<&Member>
 }
 
 fn has_two_verbs(members: &[Member]) -> bool
-    ensures { result ≡ (has_name members.now (codes "execute") && has_name members.now (codes "exec-oob")) }
+    ensures { result ≡ (has_name members.now (codes "execute")
+        && has_name members.now (codes "exec-oob")) }
 {
     has_member(members, b"execute") && has_member(members, b"exec-oob")
 }
@@ -188,7 +189,8 @@ fn command_verdict(
     name: &[u8],
     arguments: &[Member],
 ) -> Result<Verdict, NoMemory>
-    ensures { IfOk result (λ verdict. verdict ≡ run_or (misplaced mode name.now arguments.now) (command_of_name name.now)) }
+    ensures { IfOk result (λ verdict. verdict ≡
+        run_or (misplaced mode name.now arguments.now) (command_of_name name.now)) }
 {
     if let Some(refusal) = misplaced(alloc, mode, name, arguments)? {
         return Ok(Verdict::Refused(refusal));

@@ -1,9 +1,20 @@
-ghost use Rattle.std.specs.Prelude.{◌≡◌, [], ◌∷◌, ◌++◌, length, OnOk, OnErr};
+ghost use Rattle.std.specs.Prelude.{◌≡◌, [], ◌∷◌, ◌++◌, ◌-◌, take, length, IfOk, OnOk, OnErr};
+ghost use Rattle.qm_json.specs.Printing.{printed};
 
 use qm_base::{NoMemory, Shared, Text};
+use qm_json::Json;
 use std::alloc::Global;
 use std::marker::Model;
 use std::mem;
+
+/// The line that a value is printed as.
+pub(crate) fn line(alloc: Global, value: &Json) -> Result<Shared<Text>, NoMemory>
+    ensures { IfOk result (λ line. line ≡ printed value.now) }
+{
+    let mut text = Text::new(alloc);
+    value.write_text(&mut text)?;
+    Shared::new(alloc, text)
+}
 
 /// Lines in order, each without its CR LF.
 #[derive(Drop)]
@@ -52,6 +63,13 @@ impl LineList {
             Ok(()) => Ok(()),
             Err(_) => Err(NoMemory),
         }
+    }
+
+    /// Drops the last line, where there is one.
+    pub(crate) fn drop_last(&mut self)
+        ensures { self.new ≡ take (length self.old - 1) self.old }
+    {
+        let _ = self.items.pop();
     }
 
     /// Moves all lines out. It takes no memory.

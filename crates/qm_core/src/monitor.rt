@@ -1,6 +1,168 @@
+ghost use Rattle.std.specs.Prelude.{◌≡◌, ◌≢◌, ◌+◌, ◌≤◌, ◌<◌, [], ◌∷◌, length, Option, Some, Err, IfOk, IfErr, OnOk, IsTrue, ◌↔◌, false};
+ghost use Rattle.std.specs.Result.{result_err};
+ghost use Rattle.qm_core.specs.Legal.{IsLegal, past_of};
+ghost use Rattle.qm_core.specs.Next.{session_refusal};
+ghost use Rattle.qm_core.specs.Standing.{sessions_of, was_opened, is_dropped, is_ended, open_count_of, in_flight_of, running_of, named_of};
+
+use crate::entries::StepFault;
+use crate::journal::EntryList;
+use crate::requests::{Request, Started};
+use crate::sessions::Session;
+use qm_base::{NoMemory, ReservedList};
+use std::alloc::Global;
+use std::marker::Model;
+
+mod counts;
+mod request_steps;
+mod session_steps;
+#[cfg(test)]
+mod tests;
+
 /// What a monitor may grow to.
 #[derive(Clone, Copy, Debug, PartialEq, Eq)]
 pub struct Limits {
     /// The entries of the journal and the open sessions together.
     pub entries: u64,
+}
+
+/// The monitor: its journal, and what stands in it. Contracts see its limits and its journal.
+#[derive(Drop)]
+pub struct Monitor {
+    limits: Limits,
+    journal: EntryList,
+    session: Session,
+    running: Option<Request>,
+    last_moment: u64,
+}
+
+impl Model for Monitor {
+    ghost use Rattle.qm_core.specs.Next.{Shown, shown_code};
+    ghost use Rattle.qm_core.specs.contracts.entries.Entry as entry;
+
+    ghost Value = { Shown };
+
+    ghost coded = { shown_code entry.the_row.coded };
+
+    ghost use Rattle.qm_core.specs.Kept.{shown, IsSound};
+
+    ghost view = { shown };
+
+    ghost invariant = { IsSound };
+}
+
+impl Monitor {
+    ghost use Rattle.qm_core.specs.declared.TheConstants.{MOST_ENTRIES};
+    ghost use Rattle.qm_core.specs.declared.entries.StepFault.{StepFault};
+    ghost use Rattle.qm_core.specs.Kept.{HasPlace, IsFirstOpen, room_refusal};
+
+    /// A monitor with an empty journal, which has its places.
+    pub fn new(alloc: Global, limits: Limits) -> Result<Monitor, NoMemory>
+        requires some { 1 ≤ limits.entries }
+        requires few { limits.entries ≤ MOST_ENTRIES }
+        ensures { IfOk result (λ monitor. monitor ≡ record { limits = limits; journal = [] }) }
+    {
+        let journal = ReservedList::new(alloc, limits.entries as usize)?;
+        Ok(Monitor {
+            limits,
+            journal,
+            session: Session::unopened(alloc),
+            running: None,
+            last_moment: 0,
+        })
+    }
+
+    /// The journal.
+    pub fn journal(&self) -> &EntryList
+        ensures entries { result.now.items ≡ self.now.journal }
+        ensures legal { IsLegal self.now.journal }
+    {
+        &self.journal
+    }
+
+    /// What it may grow to.
+    pub fn limits(&self) -> Limits
+        ensures { result ≡ self.now.limits }
+    {
+        self.limits
+    }
+
+    /// The request that was started and is not answered yet.
+    pub fn running(&self) -> Option<Started>
+        ensures { result ≡ named_of (running_of (past_of self.now.journal)) }
+    {
+        match &self.running {
+            Some(request) => Some(Started {
+                session: request.session,
+                number: request.number,
+            }),
+            None => None,
+        }
+    }
+
+    /// Whether a session was opened.
+    pub fn has_opened(&self) -> bool
+        ensures { IsTrue result ↔ (sessions_of (past_of self.now.journal) ≢ []) }
+    {
+        self.session.opened
+    }
+
+    /// Whether the session was opened.
+    pub fn is_known(&self, session: u32) -> bool
+        ensures { result ≡ was_opened session (past_of self.now.journal) }
+    {
+        self.session.opened && session == 1
+    }
+
+    /// Whether the session was closed.
+    pub fn is_closed(&self, session: u32) -> bool
+        ensures { result ≡ is_dropped session (past_of self.now.journal) }
+    {
+        if session == 1 {
+            self.session.dropped
+        } else {
+            false
+        }
+    }
+
+    fn open_count(&self) -> u64
+        ensures { result ≡ open_count_of (past_of self.now.journal) }
+    {
+        if self.session.opened && !self.session.dropped {
+            1
+        } else {
+            0
+        }
+    }
+
+    fn in_flight(&self) -> u32
+        ensures { result ≡ in_flight_of 1 (past_of self.now.journal) }
+    {
+        let waiting = if self.session.waiting.is_some() { 1 } else { 0 };
+        let running = if self.running.is_some() { 1 } else { 0 };
+        waiting + running
+    }
+
+    fn room(&self) -> Result<(), StepFault>
+        ensures fault { result_err result ≡ room_refusal self.now }
+        ensures room { OnOk result (HasPlace self.now) }
+    {
+        if self.journal.len() as u64 + 1 + self.open_count() > self.limits.entries {
+            return Err(StepFault::JournalFull);
+        }
+        Ok(())
+    }
+
+    fn open_session(&self, session: u32) -> Result<(), StepFault>
+        ensures open { OnOk result (IsFirstOpen (past_of self.now.journal) session) }
+        ensures fault { (others : Option StepFault) → IfErr result (λ fault. Some fault
+            ≡ session_refusal session (past_of self.now.journal) others) }
+    {
+        if !self.is_known(session) {
+            return Err(StepFault::NoSession);
+        }
+        if self.session.dropped {
+            return Err(StepFault::Closed);
+        }
+        Ok(())
+    }
 }

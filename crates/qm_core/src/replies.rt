@@ -1,157 +1,19 @@
-ghost use Rattle.std.specs.Prelude.{◌≡◌, ◌++◌, [], ◌∷◌, codes, false, IfOk, Some};
-ghost use Rattle.std.specs.Fmt.{decimal};
+ghost use Rattle.std.specs.Prelude.{◌≡◌, [], ◌∷◌, codes, false, IfOk, Some};
 ghost use Rattle.std.specs.Option.{option_copied};
 ghost use Rattle.qm_json.specs.Members.{has_name};
 ghost use Rattle.qm_caps.specs.Greetings.{named};
-ghost use Rattle.qm_core.specs.Refusals.{bad_desc_of, class_name_of, class_of, desc_of, frame_desc_of, json_desc_of};
 ghost use Rattle.qm_core.specs.Replies.{error_of, id_members, id_of, is_return, outcome_of, reply_to, return_of};
 ghost use Rattle.qm_core.specs.Standing.{negotiates};
 
-use crate::inputs::{BadInput, FrameWord, Input, JsonWord};
+use crate::inputs::Input;
 use crate::judging::{command_name, members, verdict};
+use crate::refusals::{class, class_name, desc};
 use crate::requests::Request;
-use crate::verdicts::{Class, Command, Refusal, Verdict};
-use itoa::Buffer;
-use qm_base::{NoMemory, Text};
+use crate::verdicts::{Command, Refusal, Verdict};
+use qm_base::NoMemory;
 use qm_caps::version;
 use qm_json::{Json, Members, has_member};
 use std::alloc::Global;
-
-fn with_place(alloc: Global, front: &[u8], place: u64) -> Result<Text, NoMemory>
-    ensures { IfOk result (λ text. text ≡ front.now ++ decimal place) }
-{
-    let mut text = Text::of(alloc, front)?;
-    let mut buffer = Buffer::new();
-    text.extend(buffer.format(place).as_bytes())?;
-    Ok(text)
-}
-
-fn with_name(alloc: Global, front: &[u8], name: &[u8], back: &[u8]) -> Result<Text, NoMemory>
-    ensures { IfOk result (λ text. text ≡ front.now ++ name.now ++ back.now) }
-{
-    let mut text = Text::of(alloc, front)?;
-    text.extend(name)?;
-    text.extend(back)?;
-    Ok(text)
-}
-
-fn frame_desc(alloc: Global, word: FrameWord) -> Result<Text, NoMemory>
-    ensures { IfOk result (λ text. text ≡ frame_desc_of word) }
-{
-    match word {
-        FrameWord::LexError => Text::of(alloc, b"Invalid JSON: lexical error"),
-        FrameWord::Unbalanced => Text::of(alloc, b"Invalid JSON: unbalanced bracket"),
-        FrameWord::TooDeep => Text::of(alloc, b"Invalid JSON: nesting is deeper than 128"),
-        FrameWord::TooLong => {
-            Text::of(alloc, b"Invalid JSON: message is longer than 1048576 bytes")
-        }
-    }
-}
-
-fn json_desc(alloc: Global, word: JsonWord) -> Result<Text, NoMemory>
-    ensures { IfOk result (λ text. text ≡ json_desc_of word) }
-{
-    match word {
-        JsonWord::Expected(place) => {
-            with_place(alloc, b"Invalid JSON: syntax error at byte ", place)
-        }
-        JsonWord::Duplicate(place) => {
-            with_place(alloc, b"Invalid JSON: duplicate member at byte ", place)
-        }
-        JsonWord::BadEscape(place) => {
-            with_place(alloc, b"Invalid JSON: bad escape at byte ", place)
-        }
-        JsonWord::BadUtf8(place) => with_place(alloc, b"Invalid JSON: bad UTF-8 at byte ", place),
-    }
-}
-
-fn bad_desc(alloc: Global, bad: BadInput) -> Result<Text, NoMemory>
-    ensures { IfOk result (λ text. text ≡ bad_desc_of bad) }
-{
-    match bad {
-        BadInput::Frame(word) => frame_desc(alloc, word),
-        BadInput::Json(word) => json_desc(alloc, word),
-    }
-}
-
-fn desc(alloc: Global, refusal: &Refusal) -> Result<Text, NoMemory>
-    ensures { IfOk result (λ text. text ≡ desc_of refusal.now) }
-{
-    match refusal {
-        Refusal::BadInput(bad) => bad_desc(alloc, *bad),
-        Refusal::NotAnObject => Text::of(alloc, b"QMP input must be a JSON object"),
-        Refusal::UnexpectedMember(name) => {
-            with_name(
-                alloc,
-                b"QMP input member '",
-                name.as_slice(),
-                b"' is unexpected",
-            )
-        }
-        Refusal::TwoVerbs => Text::of(alloc, b"QMP input has both 'execute' and 'exec-oob'"),
-        Refusal::NoVerb => Text::of(alloc, b"QMP input lacks member 'execute'"),
-        Refusal::VerbNoString(name) => {
-            with_name(
-                alloc,
-                b"QMP input member '",
-                name.as_slice(),
-                b"' must be a string",
-            )
-        }
-        Refusal::ArgumentsNoObject => {
-            Text::of(alloc, b"QMP input member 'arguments' must be an object")
-        }
-        Refusal::NegotiationExpected => {
-            Text::of(
-                alloc,
-                b"Expecting capabilities negotiation with 'qmp_capabilities'",
-            )
-        }
-        Refusal::NegotiationComplete => {
-            Text::of(
-                alloc,
-                b"Capabilities negotiation is already complete, command ignored",
-            )
-        }
-        Refusal::UnknownCommand(name) => {
-            with_name(
-                alloc,
-                b"The command ",
-                name.as_slice(),
-                b" has not been found",
-            )
-        }
-        Refusal::UnexpectedArgument(name) => {
-            with_name(alloc, b"Parameter '", name.as_slice(), b"' is unexpected")
-        }
-    }
-}
-
-fn class(refusal: &Refusal) -> Class
-    ensures { result ≡ class_of refusal.now }
-{
-    match refusal {
-        Refusal::NegotiationExpected | Refusal::NegotiationComplete | Refusal::UnknownCommand(_) =>
-            Class::CommandNotFound,
-        Refusal::BadInput(_)
-        | Refusal::NotAnObject
-        | Refusal::UnexpectedMember(_)
-        | Refusal::TwoVerbs
-        | Refusal::NoVerb
-        | Refusal::VerbNoString(_)
-        | Refusal::ArgumentsNoObject
-        | Refusal::UnexpectedArgument(_) => Class::GenericError,
-    }
-}
-
-fn class_name(class: Class) -> &'static [u8]
-    ensures { result.now ≡ class_name_of class }
-{
-    match class {
-        Class::GenericError => b"GenericError",
-        Class::CommandNotFound => b"CommandNotFound",
-    }
-}
 
 fn error(alloc: Global, refusal: &Refusal) -> Result<Json, NoMemory>
     ensures { IfOk result (λ value. value ≡ error_of refusal.now) }
@@ -234,3 +96,6 @@ pub(crate) fn negotiates(request: &Request) -> bool
         Input::Bad(_) => false,
     }
 }
+
+#[cfg(test)]
+mod tests;

@@ -1,5 +1,5 @@
 use crate::inputs::Input;
-use qm_caps::Mode;
+use qm_caps::{Lane, Mode};
 
 /// A request that was admitted and is not answered yet.
 #[derive(Drop)]
@@ -12,6 +12,15 @@ pub struct Request {
     pub mode: Mode,
     /// What the client sent.
     pub input: Input,
+}
+
+/// What an admission answers.
+#[derive(Clone, Copy, Debug, PartialEq, Eq)]
+pub struct Admitted {
+    /// The number of the request in its session, from 1 on.
+    pub number: u64,
+    /// How it is run.
+    pub lane: Lane,
 }
 
 /// A request that was started.

@@ -1,8 +1,8 @@
 mod FramingLemmas
-mod Growth
+pub mod Growth
 mod Levels
 mod Opens
 mod PieceLemmas
-mod Positions
+pub mod Positions
 mod Rows
 mod Texts

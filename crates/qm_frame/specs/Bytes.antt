@@ -1,4 +1,5 @@
--- Sorts of bytes in a JSON text (RFC 8259, sections 2, 6 and 7; strings may also stand in single quotes).
+-- Sorts of bytes in a JSON text (RFC 8259, sections 2, 6 and 7).
+-- Strings may also stand in single quotes (this project's own rule).
 use Rattle.std.specs.Prelude.{ℕ, ◌==◌, nat_lt, nat_le, Bool, not, ◌&&◌, ◌||◌}
 
 -- space, tab, CR and LF

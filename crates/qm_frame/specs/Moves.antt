@@ -1,4 +1,4 @@
--- What one more byte adds to the pieces of a text, by the piece that the text ends in (serves private functions).
+-- What one more byte adds to the pieces of a text, by the last of them (serves private functions).
 use Rattle.std.specs.Prelude.{ℕ, ◌+◌, ◌-◌, ◌==◌, Bool, true, false, cond, [], ◌∷◌}
 use Rattle.qm_base.specs.Search.{Found}
 use Rattle.qm_frame.specs.declared.piece.LastPiece.{LastPiece}

@@ -1,12 +1,12 @@
--- The pieces that a text is made of, by longest match: single bytes, runs of a number or a word, and strings
--- (RFC 8259, section 2, before any look at what a run or a string holds).
+-- The pieces that a text is made of, by longest match: single bytes, runs of a number or a word, and
+-- strings (RFC 8259, section 2, before any look at what a run or a string holds).
 use Rattle.std.specs.Prelude.{ℕ, ◌+◌, ◌-◌, ◌==◌, Bool, true, false, not, cond, ◌&&◌, List, [], ◌∷◌, count_by, position, Option, Some, None}
 use Rattle.qm_base.specs.Search.{Front, Piece, Final, Found, found_after}
 use Rattle.qm_frame.specs.declared.piece.LastPiece.{LastPiece}
 use Rattle.qm_frame.specs.declared.piece.LastPiece.TheVariants.{Whole, Number, Word, Str, Escape, Broken}
 use Rattle.qm_frame.specs.Bytes.{is_single, is_opener, is_closer, begins_number, in_number, is_letter, is_quote, is_barred}
 
--- a run takes the bytes before the first that is not of its sort; without one the text ends in the run
+-- a run takes the bytes before the first that is not of its sort; without one the text ends in it
 abbrev pub run_to : LastPiece → Option ℕ → Front ℕ LastPiece
 run_to last (Some n) = Piece [] n
 run_to last None = Final [] last
@@ -16,7 +16,8 @@ abbrev pub one_later : Front ℕ LastPiece → Front ℕ LastPiece
 one_later (Piece answers k) = Piece answers (k + 1)
 one_later (Final answers last) = Final answers last
 
--- what follows the quote of a string; a backslash (92) goes with the byte after it, and escaped says that the first byte is such a one
+-- what follows the quote of a string: a backslash (92) goes with the byte after it, and escaped says
+-- that the first byte is such a one
 abbrev pub quoted : ℕ → Bool → List ℕ → Front ℕ LastPiece
 quoted quote escaped [] = Final [] (cond escaped (Escape quote) (Str quote))
 quoted quote escaped (x ∷ rest) =
@@ -49,6 +50,6 @@ is_broken (Escape quote) = false
 abbrev pub scans : List ℕ → Bool
 scans text = not (is_broken (pieces text).rest)
 
--- openers minus closers, outside strings
+-- openers minus closers, outside strings; 0 where there are more closers
 abbrev pub level_of : List ℕ → ℕ
 level_of text = count_by is_opener (pieces text).answers - count_by is_closer (pieces text).answers

@@ -26,7 +26,11 @@ judged s x =
     (cond (is_broken (moved s.last x).rest) (Wrong LexError)
     (cond (nat_lt MAX_DEPTH (depth_after s.last s.depth x)) (Wrong TooDeep)
     (cond (depth_after s.last s.depth x == 0) Ends
-    (Taken record { last = (moved s.last x).rest; depth = depth_after s.last s.depth x; length = s.length + 1 }))))
+    (Taken record {
+      last = (moved s.last x).rest;
+      depth = depth_after s.last s.depth x;
+      length = s.length + 1;
+    }))))
 
 -- there is room for a message, and what is known of the text is right while it is open
 pub record IsKnown (capacity : ℕ) (text : List ℕ) (state : State) : Type 0 where

@@ -48,7 +48,8 @@ impl Framer {
     #[tactic(auto, using(crate::proofs::FramingLemmas::one_more))]
     pub fn push(&mut self, byte: u8) -> Step
         ensures given { self.new.given ≡ self.old.given ++ byte ∷ [] }
-        ensures frames { frames_of self.new.given ≡ frames_of self.old.given ++ answered result self.new.message }
+        ensures frames { frames_of self.new.given ≡
+            frames_of self.old.given ++ answered result self.new.message }
         ensures message { result ≢ Step.Frame → self.new.message ≡ [] }
     {
         let step = self.splitter.push(byte);

@@ -1,8 +1,7 @@
 ghost use Rattle.std.specs.Prelude.{◌≡◌, ◌≤◌, ◌<◌, true, [], ◌∷◌, ◌++◌, IfOk, vec_len, vec_capacity};
 ghost use Rattle.qm_frame.specs.Bytes.{is_opener as opener};
-ghost use Rattle.qm_frame.specs.Framed.{answered};
 ghost use Rattle.qm_frame.specs.Framing.{Inside};
-ghost use Rattle.qm_frame.specs.Steps.{step, left_by};
+ghost use Rattle.qm_frame.specs.Steps.{step, stepped, split_by};
 ghost use Rattle.qm_frame.specs.Messages.{is_open};
 
 use crate::judging::{Judged, State, judge};
@@ -46,6 +45,7 @@ impl Model for OpenText {
 }
 
 impl OpenText {
+    /// No message yet, and room for one.
     #[tactic(auto, using(crate::proofs::Texts::empty_shut))]
     pub fn new(alloc: Global) -> Result<OpenText, NoMemory>
         ensures { IfOk result (λ text. text ≡ []) }
@@ -59,6 +59,7 @@ impl OpenText {
         }
     }
 
+    /// The bytes.
     pub fn as_slice(&self) -> &[u8]
         ensures { result.now ≡ self.now }
     {
@@ -80,7 +81,8 @@ impl OpenText {
     /// Takes one more byte of a message.
     pub fn push(&mut self, byte: u8) -> Step
         requires { is_open self.old ≡ true }
-        ensures step { step (Inside self.old) byte ≡ record { answers = answered result self.new; rest = left_by result byte self.new } }
+        ensures step { step (Inside self.old) byte ≡
+            stepped result (split_by result byte self.new) }
         ensures open { result ≡ Step.More → is_open self.new ≡ true }
     {
         match judge(self.state, byte) {

@@ -1,7 +1,6 @@
 ghost use Rattle.std.specs.Prelude.{◌≡◌, ◌≢◌, ◌∷◌, [], IfOk};
-ghost use Rattle.qm_frame.specs.Framed.{answered};
 ghost use Rattle.qm_frame.specs.Framing.{Between};
-ghost use Rattle.qm_frame.specs.Steps.{step};
+ghost use Rattle.qm_frame.specs.Steps.{step, stepped};
 ghost use Rattle.qm_frame.specs.Splits.{mode_after as mode_of};
 
 use crate::bytes::{is_closer, is_opener, is_reset, is_space};
@@ -60,6 +59,7 @@ impl Model for Splitter {
 }
 
 impl Splitter {
+    /// A splitter that was given no byte.
     pub fn new(alloc: Global) -> Result<Splitter, NoMemory>
         ensures { IfOk result (λ splitter. splitter ≡ record { rest = Between; message = [] }) }
     {
@@ -84,7 +84,7 @@ impl Splitter {
 
     /// Takes the next byte.
     pub fn push(&mut self, byte: u8) -> Step
-        ensures step { step self.old.rest byte ≡ record { answers = answered result self.new.message; rest = self.new.rest } }
+        ensures step { step self.old.rest byte ≡ stepped result self.new }
         ensures message { result ≢ Step.Frame → self.new.message ≡ [] }
     {
         match self.mode {
@@ -105,7 +105,7 @@ impl Splitter {
 
     fn push_between(&mut self, byte: u8) -> Step
         requires { self.old.rest ≡ Between }
-        ensures step { step Between byte ≡ record { answers = answered result self.new.message; rest = self.new.rest } }
+        ensures step { step Between byte ≡ stepped result self.new }
         ensures message { self.new.message ≡ [] }
     {
         if is_space(byte) {
@@ -119,9 +119,9 @@ impl Splitter {
             self.mode = Mode::Inside;
             Step::More
         } else {
-            let step = Step::Bad(FrameFault::LexError);
-            self.mode = mode_after(step, byte);
-            step
+            let fault = Step::Bad(FrameFault::LexError);
+            self.mode = mode_after(fault, byte);
+            fault
         }
     }
 }

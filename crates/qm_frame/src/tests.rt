@@ -46,7 +46,10 @@ fn streams_have_their_frames(rt: HostRuntime) -> Result<(), Fail> {
         (b"{\"a\\\n{}", "lex error\n{}\n"),
         (b"[T]\n{}", "lex error\n{}\n"),
         (b"{\"execute\":\"quit\"", ""),
-        (b"{ \"exec\xFF{\"execute\":1}", "lex error\n{\"execute\":1}\n"),
+        (
+            b"{ \"exec\xFF{\"execute\":1}",
+            "lex error\n{\"execute\":1}\n",
+        ),
         (b"[1E]", "[1E]\n"),
         (b"[E]\n", "lex error\n"),
         (b"[+1]\n", "lex error\n"),
@@ -77,7 +80,10 @@ fn answer_to_many(rt: &impl AllocGlobal, openers: usize, closers: usize) -> Resu
 fn nesting_has_a_limit(rt: HostRuntime) -> Result<(), Fail> {
     assert_eq!(rt; MAX_DEPTH, 128);
     assert_eq!(rt; answer_to_many(&rt, 128, 128)?, Step::Frame);
-    assert_eq!(rt; answer_to_many(&rt, 129, 0)?, Step::Bad(FrameFault::TooDeep));
+    assert_eq!(rt;
+        answer_to_many(&rt, 129, 0)?,
+        Step::Bad(FrameFault::TooDeep)
+    );
     Ok(())
 }
 
@@ -96,6 +102,9 @@ fn answer_to_blanks(rt: &impl AllocGlobal, blanks: usize) -> Result<(Step, usize
 fn length_has_a_limit(rt: HostRuntime) -> Result<(), Fail> {
     assert_eq!(rt; MAX_LENGTH, 1_048_576);
     assert_eq!(rt; answer_to_blanks(&rt, 1_048_574)?, (Step::Frame, 1_048_576));
-    assert_eq!(rt; answer_to_blanks(&rt, 1_048_575)?, (Step::Bad(FrameFault::TooLong), 0));
+    assert_eq!(rt;
+        answer_to_blanks(&rt, 1_048_575)?,
+        (Step::Bad(FrameFault::TooLong), 0)
+    );
     Ok(())
 }

@@ -1,4 +1,4 @@
--- Texts with commas between them, and the printed values of which they are made.
+-- Texts with commas between them.
 use Rattle.std.proofs.Common.{◌≡◌, ℕ, ◌+◌, ◌<◌, suc, true, List, [], ◌∷◌, ◌++◌, length, take, drop, get_or, map, refl, ap, sym, ◌∙◌, subst, arith, append_assoc, Result}
 use Rattle.std.specs.List.{flat_map}
 use Rattle.std.specs.Prelude.{nat_lt}
@@ -8,9 +8,7 @@ use Rattle.std.proofs.lemmas.Grind.{flat_map-append}
 use Rattle.std.proofs.lemmas.Bool.Decides.{nat_tests}
 use Rattle.qm_base.specs.declared.text.NoMemory.{NoMemory}
 use Rattle.qm_base.specs.Prefixes.{IsPrefix, Writes}
-use Rattle.qm_json.specs.declared.value.Member.{Member}
-use Rattle.qm_json.specs.declared.value.Json.TheFolds.{fold-roll-Member}
-use Rattle.qm_json.specs.Printing.{printed, print_layer, member_layer, member_text, printed_member, joined, placed, after_comma}
+use Rattle.qm_json.specs.Printing.{joined, placed, after_comma}
 use Rattle.qm_json.proofs.Texts.{Remains, remains_stops, cut}
 
 -- one more text after those that stand there
@@ -41,6 +39,3 @@ joined-next f xs i x h at =
     ∙ ap (λ l. joined (map f (take i xs)) ++ l) (append-nil _)
     ∙ ap (λ (n : ℕ). joined (map f (take i xs)) ++ placed (nat_lt 0 n) (f (get_or xs i x))) long
     ∙ ap (λ y. joined (map f (take i xs)) ++ placed (nat_lt 0 i) (f y)) (sym at)
-
-pub printed_member-is : (m : Member) → printed_member m ≡ member_text m.name (printed m.value)
-printed_member-is m = fold-roll-Member (List ℕ) (List ℕ) print_layer member_layer record { name = m.name; value = m.value }

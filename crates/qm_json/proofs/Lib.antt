@@ -4,4 +4,6 @@ pub mod Joined
 pub mod Measures
 mod NumberExamples
 pub mod Plain
+pub mod PrintLaws
 pub mod Texts
+pub mod Wholes

@@ -1,5 +1,6 @@
--- Values that a text can spell: strings and names are UTF-8, the names of an object are distinct,
--- a whole number is in its range, and any other number is a literal that is no whole number.
+-- Values that a text can spell (RFC 8259, sections 4, 6 and 8.1): strings and names are UTF-8, the
+-- names of an object are distinct, a whole number is in its range, and any other number is a literal
+-- that is not of such a whole number. That names are distinct, and the range, is this project's own rule.
 use Rattle.std.specs.Prelude.{ℕ, Bool, true, not, ◌&&◌, List, [], ◌∷◌, map, IsTrue}
 use Rattle.std.specs.List.{list_all, list_any}
 use Rattle.std.specs.Str.{bytes_eq, is_utf8}
@@ -18,7 +19,8 @@ pub record NameAndTest : Type 0 where
 -- no text is equal to one after it
 abbrev pub are_distinct : List (List ℕ) → Bool
 are_distinct [] = true
-are_distinct (name ∷ names) = not (list_any (λ other. bytes_eq other name) names) && are_distinct names
+are_distinct (name ∷ names) =
+    not (list_any (λ other. bytes_eq other name) names) && are_distinct names
 
 abbrev pub clean_member_layer : Member-F Bool NameAndTest → NameAndTest
 clean_member_layer m = record { name = m.name; is_clean = is_utf8 m.name && m.value }
@@ -31,7 +33,8 @@ clean_layer (layer.Json-F.Int n) = is_in_whole_range n
 clean_layer (layer.Json-F.Num text) = is_literal text && not (is_whole_literal text)
 clean_layer (layer.Json-F.Str bytes) = is_utf8 bytes
 clean_layer (layer.Json-F.Arr items) = list_all (λ item. item) items
-clean_layer (layer.Json-F.Obj members) = are_distinct (map (λ m. m.name) members) && list_all (λ m. m.is_clean) members
+clean_layer (layer.Json-F.Obj members) =
+    are_distinct (map (λ m. m.name) members) && list_all (λ m. m.is_clean) members
 
 abbrev pub is_clean : Json → Bool
 is_clean = fold-Json Bool NameAndTest clean_layer clean_member_layer

@@ -14,7 +14,9 @@ hex_digit n = cond (nat_lt n 10) (n + 48) (n + 55)
 
 -- a unit of UTF-16 as `\uXXXX`
 abbrev pub unit_escape : ℕ → List ℕ
-unit_escape u = codes "\\u" ++ hex_digit (u / 4096) ∷ hex_digit (u / 256 % 16) ∷ hex_digit (u / 16 % 16) ∷ hex_digit (u % 16) ∷ []
+unit_escape u =
+    codes "\\u"
+    ++ hex_digit (u / 4096) ∷ hex_digit (u / 256 % 16) ∷ hex_digit (u / 16 % 16) ∷ hex_digit (u % 16) ∷ []
 
 -- a code point by its units, which are two past 0xFFFF
 abbrev pub unicode_escape : ℕ → List ℕ

@@ -36,7 +36,6 @@ impl Model for Members {
     ghost view = { λ m. m.items };
 }
 
-/// The value of the first member of the name.
 fn find<'a>(members: &'a [Member], name: &[u8]) -> Option<&'a Json>
     ensures { option_copied result ≡ value_in members.now name.now }
 {

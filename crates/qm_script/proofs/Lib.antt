@@ -1,1 +1,4 @@
+pub mod FedLemmas
 pub mod LineLemmas
+pub mod PutLemmas
+pub mod TurnLemmas

@@ -225,8 +225,10 @@ pub fn order_of_line(line: &[u8]) -> Option<Order>
 
 /// The text that a `text` line feeds: what follows its session number and a blank.
 pub fn fed_by(line: &[u8]) -> &[u8]
-    requires { 5 ≤ length line.now }
     ensures { result.now ≡ fed_by_of line.now }
 {
+    if line.len() < 5 {
+        return &[];
+    }
     after_blank(&line[5..])
 }

@@ -1,7 +1,8 @@
 use Rattle.std.proofs.Common.{◌++◌, ◌∷◌, [], map}
 use Rattle.qm_json.specs.Strings.{quoted}
 use Rattle.qm_json.specs.Printing.{printed, joined, printed_member}
-use Rattle.qm_json.proofs.Joined.{joined-halts, printed_member-is}
+use Rattle.qm_json.proofs.Joined.{joined-halts}
+use Rattle.qm_json.proofs.PrintLaws.{printed_member-is}
 use Rattle.qm_json.proofs.Texts.{enclosed, first_stops, second_writes}
 use Rattle.qm_json.proofs.printing.+write.Goals as goal
 

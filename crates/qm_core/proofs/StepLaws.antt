@@ -1,0 +1,89 @@
+-- The entry of a step that is not refused may come next.
+use Rattle.std.proofs.Common.{◌≡◌, ℕ, Bool, true, false, cond, ◌&&◌, ◌||◌, Option, Some, None, is_some, is_none, List, length, nat_le, ◌==◌, refl, ap, sym, ◌∙◌, arith}
+use Rattle.std.proofs.lemmas.Bool.Decides.{nat_tests, Decides-eqb}
+use Rattle.qm_caps.specs.Modes.{bound_of}
+use Rattle.qm_core.specs.declared.TheConstants.{MOST_SESSIONS}
+use Rattle.qm_core.specs.declared.entries.Cause.{Cause}
+use Rattle.qm_core.specs.declared.entries.Cause.TheVariants as cause
+use Rattle.qm_core.specs.declared.entries.Entry.{Entry}
+use Rattle.qm_core.specs.declared.entries.StepFault.{StepFault}
+use Rattle.qm_core.specs.declared.entries.StepFault.TheVariants.{NoSession, Closed, InputEnded, Busy, Nothing, NotRunning, NotDrained, SessionsFull}
+use Rattle.qm_core.specs.declared.requests.Request.{Request}
+use Rattle.qm_core.specs.declared.requests.Started.{Started}
+use Rattle.qm_core.specs.Drained.{is_drained}
+use Rattle.qm_core.specs.Legal.{past_of, IsLegal}
+use Rattle.qm_core.specs.Next.{Next, Shown, Step, Open, Admit, Start, Finish, Take, End, Drop, IsCleanStep, entry_of, start_entry, refusal_of, full_refusal, session_refusal, cause_refusal, names, is_running}
+use Rattle.qm_core.specs.Order.{MayFollow, Holds}
+use Rattle.qm_core.specs.Standing.{sessions_of, was_opened, is_dropped, is_ended, is_open, in_flight_of, mode_of, running_of, starting_of, named_of}
+use Rattle.qm_core.specs.Transcript.{untaken_of}
+use Rattle.qm_core.proofs.Journals.{legal-append}
+
+-- a refusal that did not come
+passed : (test : Bool) (fault : StepFault) (others : Option StepFault) → None ≡ cond test (Some fault) others → (test ≡ false) × (None ≡ others)
+passed true fault others h = absurd cc
+passed false fault others h = (refl, h)
+
+held : (test : Bool) (fault : StepFault) (others : Option StepFault) → None ≡ cond test others (Some fault) → (test ≡ true) × (None ≡ others)
+held true fault others h = (refl, h)
+held false fault others h = absurd cc
+
+open_first : (s : ℕ) (past : List Entry) (others : Option StepFault) → None ≡ session_refusal s past others → (is_open s past ≡ true) × (None ≡ others)
+open_first s past others h =
+    let known = held (was_opened s past) NoSession (cond (is_dropped s past) (Some Closed) others) h in
+    let stays = passed (is_dropped s past) Closed others known.1 in
+    (rw (known.0, stays.0) refl, stays.1)
+
+both : (a b : Bool) → (a && b) ≡ true → (a ≡ true) × (b ≡ true)
+both true b h = (refl, h)
+both false b h = absurd cc
+
+drops_for : (past : List Entry) (s : ℕ) (why : Cause) → None ≡ cause_refusal why (is_drained s past) → Holds past s why
+drops_for past s cause.Ended h = (held (is_drained s past) NotDrained None h).0
+drops_for past s cause.Stopped h = absurd cc
+drops_for past s cause.Overrun h = absurd cc
+drops_for past s cause.ReadFault h = tt
+drops_for past s cause.WriteFault h = tt
+drops_for past s cause.Limit h = tt
+drops_for past s cause.Memory h = tt
+drops_for past s cause.Halted h = tt
+
+starts : (past : List Entry) (running starting : Option Request) → running ≡ running_of past → starting ≡ starting_of past → (is_some running || is_none starting) ≡ false → MayFollow past (start_entry (named_of starting))
+starts past None None runs turn h = absurd cc
+starts past None (Some q) runs turn h = record { idle = sym runs; turn = ap named_of (sym turn) }
+starts past (Some q) starting runs turn h = absurd cc
+
+named_is : (s k : ℕ) (running : Option Started) → names s k running ≡ true → running ≡ Some record { session = s; number = k }
+named_is s k None h = absurd cc
+named_is s k (Some q) h =
+    let same = both _ _ h in
+    let session : q.session ≡ s = (Decides-eqb q.session s).0 same.0 in
+    let number : q.number ≡ k = (Decides-eqb q.number k).0 same.1 in
+    ap (λ (n : ℕ). Some record { session = n; number = q.number }) session ∙ ap (λ (n : ℕ). Some record { session = s; number = n }) number
+
+pub may_follow : (entries : ℕ) (past : List Entry) (step : Step) → IsCleanStep step → None ≡ refusal_of entries past step → MayFollow past (entry_of past step)
+may_follow entries past Open clean h = (let few = (passed (nat_le MOST_SESSIONS (length (sessions_of past))) SessionsFull (full_refusal entries past (entry_of past Open)) h).0 in record { next = refl; few = grind (arith, nat_tests, few) })
+may_follow entries past (Admit s input) clean h =
+    (let full = full_refusal entries past (entry_of past (Admit s input)) in
+    let busy = nat_le (bound_of (mode_of s past)) (in_flight_of s past) in
+    let first = open_first s past (cond (is_ended s past) (Some InputEnded) (cond busy (Some Busy) full)) h in
+    let more = passed (is_ended s past) InputEnded (cond busy (Some Busy) full) first.1 in
+    let below : busy ≡ false = (passed busy Busy full more.1).0 in
+    record { is_open = first.0; more = more.0; next = refl; in_band = refl; below = grind (arith, nat_tests, below); clean = clean })
+may_follow entries past Start clean h = starts past (running_of past) (starting_of past) refl refl (passed (is_some (running_of past) || is_none (starting_of past)) Nothing (full_refusal entries past (entry_of past Start)) h).0
+may_follow entries past (Finish s k moment) clean h = record { running = named_is s k (named_of (running_of past)) (held (is_running s k past) NotRunning (full_refusal entries past (entry_of past (Finish s k moment))) h).0; answer = refl; later = omega arith }
+may_follow entries past (Take s) clean h =
+    (let full = full_refusal entries past (entry_of past (Take s)) in
+    let first = open_first s past (cond (length (untaken_of s past) == 0) (Some Nothing) full) h in
+    let some : (length (untaken_of s past) == 0) ≡ false = (passed (length (untaken_of s past) == 0) Nothing full first.1).0 in
+    record { is_open = first.0; some = grind (arith, nat_tests, some); all = refl })
+may_follow entries past (End s) clean h =
+    (let full = full_refusal entries past (entry_of past (End s)) in
+    let first = open_first s past (cond (is_ended s past) (Some InputEnded) full) h in
+    record { is_open = first.0; more = (passed (is_ended s past) InputEnded full first.1).0 })
+may_follow entries past (Drop s why) clean h =
+    (let first = open_first s past (cause_refusal why (is_drained s past)) h in
+    record { is_open = first.0; holds = drops_for past s why first.1 })
+
+pub next_legal : (old : Shown) (step : Step) (fault : Option StepFault) (new : Shown) → Next old step fault new → IsCleanStep step → IsLegal old.journal → IsLegal new.journal
+next_legal old step (Some f) new next clean legal = rw next.journal legal
+next_legal old step None new next clean legal = rw next.journal (legal-append old.journal (entry_of (past_of old.journal) step) legal (may_follow old.limits.entries (past_of old.journal) step clean next.answer))

@@ -1,0 +1,31 @@
+//! Laws of every legal journal.
+
+ghost use Rattle.std.specs.Prelude.{◌≡◌, ℕ, List, ◌∷◌, ◌++◌, Option};
+ghost use Rattle.qm_base.specs.Prefixes.{IsPrefix};
+ghost use Rattle.qm_core.specs.Legal.{IsLegal, past_of};
+ghost use Rattle.qm_core.specs.Next.{Next, Shown, Step, IsCleanStep};
+ghost use Rattle.qm_core.specs.Order.{MayFollow};
+ghost use Rattle.qm_core.specs.Transcript.{transcript_of, taken_of, untaken_of};
+ghost use Rattle.qm_core.specs.declared.entries.Entry.{Entry};
+ghost use Rattle.qm_core.specs.declared.entries.StepFault.{StepFault};
+
+/// Each entry may come after those before it.
+pub fn each_entry_may_follow()
+    ensures { (before : List Entry) (e : Entry) (after : List Entry) →
+        IsLegal (before ++ e ∷ after) → MayFollow (past_of before) e }
+{}
+
+/// The lines that were handed out to a session begin its transcript, and those that were not are
+/// the rest of it.
+pub fn taken_lines_begin_the_transcript()
+    ensures begins { (s : ℕ) (journal : List Entry) → IsLegal journal →
+        (let past = past_of journal in IsPrefix (taken_of s past) (transcript_of s past)) }
+    ensures whole { (s : ℕ) (journal : List Entry) → IsLegal journal →
+        (let past = past_of journal in taken_of s past ++ untaken_of s past ≡ transcript_of s past) }
+{}
+
+/// After each step of a monitor its journal is as legal as before.
+pub fn a_step_keeps_the_journal_legal()
+    ensures { (old : Shown) (step : Step) (fault : Option StepFault) (new : Shown) →
+        Next old step fault new → IsCleanStep step → IsLegal old.journal → IsLegal new.journal }
+{}

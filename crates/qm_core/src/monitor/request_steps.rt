@@ -1,0 +1,202 @@
+ghost use Rattle.std.specs.Prelude.{◌≡◌, ◌≢◌, ◌+◌, ◌≤◌, ◌<◌, ◌^◌, ◌&&◌, [], length, cond, Option, Some, None, Err, IfSome, IfOk, IsSome, OnOk, OnErr, false};
+ghost use Rattle.std.specs.Result.{result_err};
+ghost use Rattle.qm_json.specs.Printing.{printed};
+ghost use Rattle.qm_caps.specs.Modes.{bound_of};
+ghost use Rattle.qm_caps.specs.declared.mode.Lane.TheVariants.{InBand};
+ghost use Rattle.qm_core.specs.Legal.{past_of};
+ghost use Rattle.qm_core.specs.Next.{Next, Admit, Start, Finish, refusal_of, is_running};
+ghost use Rattle.qm_core.specs.Replies.{reply_to, is_return};
+ghost use Rattle.qm_core.specs.Standing.{is_ended, open_count_of, admitted_of, in_flight_of, mode_of, waiting_of, running_of, starting_of, named_of, negotiates};
+
+use crate::entries::{Entry, StepFault};
+use crate::lines::line;
+use crate::monitor::Monitor;
+use crate::offers::{Offer, Owners};
+use crate::replies;
+use crate::requests::{Admitted, Request, Started};
+use qm_base::{NoMemory, Shared, Text};
+use qm_caps::{Lane, bound};
+use qm_json::Json;
+use std::alloc::Global;
+
+/// A reply to a request, and what it brings about.
+#[derive(Drop)]
+struct Answer {
+    reply: Json,
+    line: Shared<Text>,
+    opens_commands: bool,
+}
+
+fn answer_to(alloc: Global, request: &Request) -> Result<Answer, NoMemory>
+    ensures reply { IfOk result (λ answer. answer.reply ≡ reply_to request.now) }
+    ensures line { IfOk result (λ answer. answer.line ≡ printed (reply_to request.now)) }
+    ensures mode { IfOk result (λ answer. answer.opens_commands
+        ≡ (negotiates (Some request.now) && is_return (reply_to request.now))) }
+{
+    let reply = replies::reply(alloc, request)?;
+    let line = line(alloc, &reply)?;
+    let opens_commands = replies::negotiates(request) && replies::is_return(&reply);
+    Ok(Answer {
+        reply,
+        line,
+        opens_commands,
+    })
+}
+
+impl Monitor {
+    ghost use Rattle.qm_core.specs.Kept.{HasPlace, IsFirstOpen, admit_refusal, refusal_in, room_refusal};
+    ghost use Rattle.qm_core.specs.declared.entries.StepFault.{StepFault};
+
+    #[tactic(auto, using(crate::proofs::KeptSessions::none_waits))]
+    fn may_admit(&self, session: u32) -> Result<(), StepFault>
+        ensures fault { result_err result ≡ admit_refusal session self.now }
+        ensures open { OnOk result (IsFirstOpen (past_of self.now.journal) session) }
+        ensures more { OnOk result (is_ended session (past_of self.now.journal) ≡ false) }
+        ensures below { let past = past_of self.now.journal in
+            OnOk result (in_flight_of session past < bound_of (mode_of session past)) }
+        ensures idle { OnOk result (waiting_of session (past_of self.now.journal) ≡ []) }
+        ensures number { OnOk result (admitted_of session (past_of self.now.journal) + 1 < 2 ^ 64) }
+        ensures room { OnOk result (HasPlace self.now) }
+    {
+        match self.open_session(session) {
+            Ok(()) => {}
+            Err(fault) => return Err(fault),
+        }
+        if self.session.ended {
+            return Err(StepFault::InputEnded);
+        }
+        if self.in_flight() >= bound(self.session.mode) {
+            return Err(StepFault::Busy);
+        }
+        self.room()
+    }
+
+    /// Admits the input of an offer, in band, and answers its number. It takes no memory.
+    ///
+    /// After success the offer is spent. `NoSession`: the session was never opened. `Closed`: it
+    /// was dropped. `InputEnded`: its input has ended. `Busy`: as many requests of it wait or run
+    /// as its mode allows. `JournalFull`. A refusal leaves the monitor and the offer as they were.
+    pub fn admit(&mut self, session: u32, offer: &mut Offer) -> Result<Admitted, StepFault>
+        requires { IsSome offer.old }
+        ensures next { IfSome offer.old (λ input.
+            Next self.old (Admit session input) (result_err result) self.new) }
+        ensures value { let number = admitted_of session (past_of self.old.journal) + 1 in
+            IfOk result (λ admitted. admitted ≡ record { number = number; lane = InBand }) }
+        ensures spent { OnOk result (offer.new ≡ None) }
+        ensures kept { OnErr result (offer.new ≡ offer.old) }
+    {
+        self.may_admit(session)?;
+        let Owners { kept, waiting } = offer.spend();
+        let number = self.session.admitted + 1;
+        let request = Request {
+            session,
+            number,
+            mode: self.session.mode,
+            input: waiting,
+        };
+        self.session.admitted = number;
+        self.session.waiting = Some(request);
+        self.journal.put(Entry::Admit {
+            session,
+            number,
+            lane: Lane::InBand,
+            input: kept,
+        });
+        Ok(Admitted {
+            number,
+            lane: Lane::InBand,
+        })
+    }
+
+    fn may_start(&self) -> Result<Started, StepFault>
+        ensures fault { result_err result ≡ refusal_in self.now Start }
+        ensures idle { OnOk result (running_of (past_of self.now.journal) ≡ None) }
+        ensures turn { let past = past_of self.now.journal in
+            IfOk result (λ started. named_of (starting_of past) ≡ Some started) }
+        ensures room { OnOk result (HasPlace self.now) }
+    {
+        if self.running.is_some() {
+            return Err(StepFault::Nothing);
+        }
+        let Some(request) = &self.session.waiting else {
+            return Err(StepFault::Nothing);
+        };
+        let started = Started {
+            session: request.session,
+            number: request.number,
+        };
+        self.room()?;
+        Ok(started)
+    }
+
+    /// Starts the least waiting request of the session whose turn it is. It takes no memory.
+    ///
+    /// `Nothing`: a request runs, or none waits in an open session. `JournalFull`. A refusal leaves
+    /// the monitor as it was.
+    pub fn start(&mut self) -> Result<Started, StepFault>
+        ensures next { Next self.old Start (result_err result) self.new }
+        ensures value { let past = past_of self.old.journal in
+            IfOk result (λ started. named_of (starting_of past) ≡ Some started) }
+    {
+        let started = self.may_start()?;
+        self.running = self.session.waiting.take();
+        self.journal.put(Entry::Start {
+            session: started.session,
+            number: started.number,
+        });
+        Ok(started)
+    }
+
+    fn may_finish(&self, session: u32, number: u64) -> Result<&Request, StepFault>
+        ensures fault { result_err result ≡ cond (is_running session number (past_of self.now.journal))
+            (room_refusal self.now) (Some StepFault.NotRunning) }
+        ensures runs { IfOk result (λ request. running_of (past_of self.now.journal) ≡ Some request.now) }
+        ensures named { IfOk result (λ request.
+            (request.now.session ≡ session) × (request.now.number ≡ number)) }
+        ensures first { OnOk result (session ≡ 1) }
+        ensures room { OnOk result (HasPlace self.now) }
+    {
+        let Some(request) = &self.running else {
+            return Err(StepFault::NotRunning);
+        };
+        if request.session != session || request.number != number {
+            return Err(StepFault::NotRunning);
+        }
+        self.room()?;
+        Ok(request)
+    }
+
+    /// Answers the running request at a moment, and puts the reply into the outbox of its session
+    /// while that is open. The entry's moment is not before any other of the journal.
+    ///
+    /// `NotRunning`: this request is not the running one. `JournalFull`. `Memory`. A refusal leaves
+    /// the monitor as it was.
+    pub fn finish(
+        &mut self,
+        alloc: Global,
+        session: u32,
+        number: u64,
+        moment: u64,
+    ) -> Result<(), StepFault>
+        ensures next { result ≢ Err StepFault.Memory →
+            Next self.old (Finish session number moment) (result_err result) self.new }
+        ensures memory { result ≡ Err StepFault.Memory → self.new ≡ self.old }
+    {
+        let request = self.may_finish(session, number)?;
+        let Answer {
+            reply,
+            line,
+            opens_commands,
+        } = answer_to(alloc, request)?;
+        self.session.answer(line, opens_commands)?;
+        self.running = None;
+        self.last_moment = moment.max(self.last_moment);
+        self.journal.put(Entry::Done {
+            session,
+            number,
+            reply,
+            moment: self.last_moment,
+        });
+        Ok(())
+    }
+}

@@ -1,0 +1,172 @@
+ghost use Rattle.std.specs.Prelude.{◌≡◌, ◌≢◌, ◌+◌, ◌≤◌, ◌<◌, [], ◌∷◌, length, Option, Some, Err, IfOk, OnOk, false};
+ghost use Rattle.std.specs.Result.{result_err};
+ghost use Rattle.qm_core.specs.Drained.{is_drained};
+ghost use Rattle.qm_core.specs.Legal.{past_of};
+ghost use Rattle.qm_core.specs.Next.{Next, Open, Take, End, Drop, refusal_of, cause_refusal};
+ghost use Rattle.qm_core.specs.Order.{Holds};
+ghost use Rattle.qm_core.specs.Standing.{sessions_of, is_ended, open_count_of};
+ghost use Rattle.qm_core.specs.Transcript.{untaken_of};
+
+use crate::entries::{Cause, Entry, StepFault};
+use crate::lines::{LineList, line};
+use crate::monitor::Monitor;
+use crate::outbox::Copies;
+use qm_caps::greeting;
+use std::alloc::Global;
+
+impl Monitor {
+    ghost use Rattle.qm_core.specs.Kept.{HasPlace, IsFirstOpen, refusal_in};
+    ghost use Rattle.qm_core.specs.declared.entries.StepFault.{StepFault};
+
+    #[tactic(auto, using(crate::proofs::Journals::nothing_before))]
+    fn may_open(&self) -> Result<(), StepFault>
+        requires { sessions_of (past_of self.now.journal) ≡ [] }
+        ensures fault { result_err result ≡ refusal_in self.now Open }
+        ensures empty { past_of self.now.journal ≡ [] }
+        ensures room { OnOk result (2 ≤ self.now.limits.entries) }
+    {
+        // Its entry and the place of its drop.
+        if self.journal.len() as u64 + 2 > self.limits.entries {
+            return Err(StepFault::JournalFull);
+        }
+        Ok(())
+    }
+
+    /// Opens the next session, puts the greeting into its outbox, and answers its number.
+    ///
+    /// `JournalFull`: there is no room for the entry and the place of the session's drop. `Memory`.
+    /// A refusal leaves the monitor as it was.
+    pub fn open(&mut self, alloc: Global) -> Result<u32, StepFault>
+        requires first { sessions_of (past_of self.old.journal) ≡ [] }
+        ensures next { result ≢ Err StepFault.Memory →
+            Next self.old Open (result_err result) self.new }
+        ensures memory { result ≡ Err StepFault.Memory → self.new ≡ self.old }
+        ensures value { let past = past_of self.old.journal in
+            IfOk result (λ number. number ≡ length (sessions_of past) + 1) }
+    {
+        self.may_open()?;
+        let greeting = greeting(alloc)?;
+        let line = line(alloc, &greeting)?;
+        self.session.outbox.put(line)?;
+        self.session.opened = true;
+        self.journal.put(Entry::Open { session: 1 });
+        Ok(1)
+    }
+
+    fn may_end(&self, session: u32) -> Result<(), StepFault>
+        ensures fault { result_err result ≡ refusal_in self.now (End session) }
+        ensures open { OnOk result (IsFirstOpen (past_of self.now.journal) session) }
+        ensures more { OnOk result (is_ended session (past_of self.now.journal) ≡ false) }
+        ensures room { OnOk result (HasPlace self.now) }
+    {
+        match self.open_session(session) {
+            Ok(()) => {}
+            Err(fault) => return Err(fault),
+        }
+        if self.session.ended {
+            return Err(StepFault::InputEnded);
+        }
+        self.room()
+    }
+
+    /// Notes the end of a session's input. It takes no memory.
+    ///
+    /// `NoSession`: it was never opened. `Closed`: it was dropped. `InputEnded`: its input has
+    /// ended. `JournalFull`. A refusal leaves the monitor as it was.
+    pub fn end(&mut self, session: u32) -> Result<(), StepFault>
+        ensures { Next self.old (End session) (result_err result) self.new }
+    {
+        self.may_end(session)?;
+        self.session.ended = true;
+        self.journal.put(Entry::Eof { session });
+        Ok(())
+    }
+
+    fn may_take(&self, session: u32) -> Result<(), StepFault>
+        ensures fault { result_err result ≡ refusal_in self.now (Take session) }
+        ensures open { OnOk result (IsFirstOpen (past_of self.now.journal) session) }
+        ensures some { OnOk result (0 < length (untaken_of session (past_of self.now.journal))) }
+        ensures room { OnOk result (HasPlace self.now) }
+    {
+        match self.open_session(session) {
+            Ok(()) => {}
+            Err(fault) => return Err(fault),
+        }
+        if self.session.outbox.len() == 0 {
+            return Err(StepFault::Nothing);
+        }
+        self.room()
+    }
+
+    /// Moves out the lines of a session that were not handed out yet. It takes no memory.
+    ///
+    /// `NoSession`: it was never opened. `Closed`: it was dropped. `Nothing`: there is no line.
+    /// `JournalFull`. A refusal leaves the monitor as it was.
+    pub fn take(&mut self, session: u32) -> Result<LineList, StepFault>
+        ensures next { Next self.old (Take session) (result_err result) self.new }
+        ensures value { IfOk result (λ lines. lines ≡ untaken_of session (past_of self.old.journal)) }
+    {
+        self.may_take(session)?;
+        let Copies { kept, given } = self.session.outbox.take();
+        self.journal.put(Entry::Take {
+            session,
+            lines: kept,
+        });
+        Ok(given)
+    }
+
+    fn is_drained(&self) -> bool
+        ensures { result ≡ is_drained 1 (past_of self.now.journal) }
+    {
+        self.session.is_open()
+            && self.session.ended
+            && self.in_flight() == 0
+            && self.session.outbox.len() == 0
+    }
+
+    fn cause_fault(&self, cause: Cause) -> Result<(), StepFault>
+        ensures fault { result_err result ≡ cause_refusal cause (is_drained 1 (past_of self.now.journal)) }
+        ensures holds { OnOk result (Holds (past_of self.now.journal) 1 cause) }
+    {
+        match cause {
+            Cause::Ended => {
+                if self.is_drained() {
+                    Ok(())
+                } else {
+                    Err(StepFault::NotDrained)
+                }
+            }
+            Cause::Stopped | Cause::Overrun => Err(StepFault::WrongCause),
+            Cause::ReadFault | Cause::WriteFault | Cause::Limit | Cause::Memory | Cause::Halted =>
+                Ok(()),
+        }
+    }
+
+    fn may_drop(&self, session: u32, cause: Cause) -> Result<(), StepFault>
+        ensures fault { result_err result ≡ refusal_in self.now (Drop session cause) }
+        ensures open { OnOk result (IsFirstOpen (past_of self.now.journal) session) }
+        ensures holds { OnOk result (Holds (past_of self.now.journal) 1 cause) }
+    {
+        match self.open_session(session) {
+            Ok(()) => self.cause_fault(cause),
+            Err(fault) => Err(fault),
+        }
+    }
+
+    /// Closes a session for a cause, and gives up its request that waits. It takes no memory, and
+    /// has kept its place in the journal.
+    ///
+    /// `NoSession`: it was never opened. `Closed`: it was dropped. `NotDrained`: the cause is
+    /// `Ended`, and its input has not ended, a request of it waits or runs, or a line was not
+    /// handed out. `WrongCause`: no command stops the monitor yet, and no session overruns. A
+    /// refusal leaves the monitor as it was.
+    pub fn drop_session(&mut self, session: u32, cause: Cause) -> Result<(), StepFault>
+        ensures { Next self.old (Drop session cause) (result_err result) self.new }
+    {
+        self.may_drop(session, cause)?;
+        self.session.dropped = true;
+        self.session.waiting = None;
+        self.journal.put(Entry::Drop { session, cause });
+        Ok(())
+    }
+}

@@ -1,0 +1,81 @@
+ghost use Rattle.std.specs.Prelude.{◌≡◌, ◌↔◌, IsTrue, IsSome, IfSome, IfOk, Some, None};
+ghost use Rattle.qm_core.specs.Inputs.{IsCleanInput};
+
+use crate::inputs::Input;
+use qm_base::NoMemory;
+use std::alloc::Global;
+use std::marker::Model;
+
+/// Two owners of one input.
+#[derive(Drop)]
+pub(crate) struct Owners {
+    pub(crate) kept: Input,
+    pub(crate) waiting: Input,
+}
+
+/// An input to be admitted, with the two owners of it that an admission gives: to the journal and
+/// to the request that waits. They are made beforehand, so that an admission takes no memory.
+#[derive(Drop)]
+pub struct Offer {
+    owners: Option<Owners>,
+}
+
+impl Model for Offer {
+    ghost use Rattle.std.specs.Prelude.{◌≡◌, Option, IfSome};
+    ghost use Rattle.std.specs.Option.{option_map};
+    ghost use Rattle.qm_core.specs.Inputs.{IsCleanInput};
+    ghost use Rattle.qm_core.specs.declared.inputs.Input.{Input};
+    ghost use Rattle.std.specs.Coded.{coded_option};
+    ghost use Rattle.qm_core.specs.contracts.inputs.Input as input;
+
+    ghost Value = { Option Input };
+
+    ghost coded = { coded_option input.the_row.coded };
+
+    ghost view = { λ o. option_map (λ w. w.kept) o.owners };
+
+    ghost invariant = { λ o. IfSome o.owners (λ w. (w.waiting ≡ w.kept) × IsCleanInput w.kept) };
+}
+
+impl Offer {
+    /// An offer of an input.
+    pub fn of(_alloc: Global, input: Input) -> Result<Offer, NoMemory>
+        requires { IsCleanInput input }
+        ensures { IfOk result (λ offer. offer ≡ Some input) }
+    {
+        let owners = match input {
+            Input::Doc(value) => Owners {
+                waiting: Input::Doc(value.again()?),
+                kept: Input::Doc(value),
+            },
+            Input::Bad(bad) => Owners {
+                kept: Input::Bad(bad),
+                waiting: Input::Bad(bad),
+            },
+        };
+        Ok(Offer {
+            owners: Some(owners),
+        })
+    }
+
+    /// Whether an admission has spent it.
+    pub fn is_spent(&self) -> bool
+        ensures { IsTrue result ↔ (self.now ≡ None) }
+    {
+        self.owners.is_none()
+    }
+
+    /// Moves both owners out.
+    pub(crate) fn spend(&mut self) -> Owners
+        requires { IsSome self.old }
+        ensures kept { self.old ≡ Some result.kept }
+        ensures waiting { result.waiting ≡ result.kept }
+        ensures clean { IsCleanInput result.kept }
+        ensures spent { self.new ≡ None }
+    {
+        match self.owners.take() {
+            Some(owners) => owners,
+            None => unreachable!(),
+        }
+    }
+}

@@ -1,0 +1,69 @@
+use crate::outbox::Outbox;
+use crate::requests::Request;
+use qm_base::{NoMemory, Shared, Text};
+use qm_caps::Mode;
+use std::alloc::Global;
+
+/// What a monitor keeps of a session, also before it is opened.
+#[derive(Drop)]
+pub(crate) struct Session {
+    pub(crate) opened: bool,
+    pub(crate) dropped: bool,
+    pub(crate) ended: bool,
+    pub(crate) admitted: u64,
+    pub(crate) mode: Mode,
+    /// The request that was admitted and not started; a session has one at most.
+    pub(crate) waiting: Option<Request>,
+    pub(crate) outbox: Outbox,
+}
+
+impl Session {
+    ghost use Rattle.std.specs.Prelude.{◌≡◌, ◌&&◌, not, cond, [], ◌∷◌, ◌++◌, OnOk, OnErr};
+    ghost use Rattle.qm_caps.specs.declared.mode.Mode.TheVariants.{Command};
+    ghost use Rattle.qm_core.specs.Kept.{unopened};
+
+    /// A session that was not opened. It takes no memory.
+    pub(crate) fn unopened(alloc: Global) -> Session
+        ensures { result ≡ unopened }
+    {
+        Session {
+            opened: false,
+            dropped: false,
+            ended: false,
+            admitted: 0,
+            mode: Mode::Negotiating,
+            waiting: None,
+            outbox: Outbox::new(alloc),
+        }
+    }
+
+    /// Whether it was opened, and not dropped since.
+    pub(crate) fn is_open(&self) -> bool
+        ensures { result ≡ (self.now.opened && not self.now.dropped) }
+    {
+        self.opened && !self.dropped
+    }
+
+    /// Puts a reply's line into the outbox while the session is open, and opens the command mode
+    /// where the reply does so. An error leaves it as it was.
+    pub(crate) fn answer(
+        &mut self,
+        line: Shared<Text>,
+        opens_commands: bool,
+    ) -> Result<(), NoMemory>
+        ensures ok { OnOk result (self.new ≡ record self.old {
+          mode = cond opens_commands Command self.old.mode;
+          outbox = cond (self.old.opened && not self.old.dropped)
+              (self.old.outbox ++ line ∷ []) self.old.outbox;
+        }) }
+        ensures err { OnErr result (self.new ≡ self.old) }
+    {
+        if self.is_open() {
+            self.outbox.put(line)?;
+        }
+        if opens_commands {
+            self.mode = Mode::Command;
+        }
+        Ok(())
+    }
+}

@@ -1,0 +1,11 @@
+//! The text of a journal: a numbered line for each entry, and a line for each line handed out.
+#![tactic(auto)]
+
+mod texts;
+pub mod writing;
+
+pub use texts::entry_text;
+pub use writing::{HistoryFault, write_history};
+
+#[cfg(test)]
+mod tests;

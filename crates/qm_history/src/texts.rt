@@ -1,0 +1,241 @@
+ghost use Rattle.std.specs.Prelude.{◌≡◌, ◌++◌, codes, flat_map, length, IfOk, OnOk};
+ghost use Rattle.std.specs.Fmt.{decimal};
+ghost use Rattle.qm_json.specs.Printing.{printed};
+ghost use Rattle.qm_core.specs.Texts.{bad_word_of, cause_word_of, entry_text_of, event_text_of, frame_word_of, input_text_of, json_word_of, lane_word_of, request_text_of, taken_text_of};
+
+use itoa::Buffer;
+use qm_base::{NoMemory, Shared, Text};
+use qm_caps::Lane;
+use qm_core::{BadInput, Cause, Entry, FrameWord, Input, JsonWord};
+use qm_json::Json;
+use std::alloc::Global;
+
+fn frame_word(word: FrameWord) -> &'static [u8]
+    ensures { result.now ≡ frame_word_of word }
+{
+    match word {
+        FrameWord::LexError => b"lex-error",
+        FrameWord::Unbalanced => b"unbalanced",
+        FrameWord::TooDeep => b"too-deep",
+        FrameWord::TooLong => b"too-long",
+    }
+}
+
+fn lane_word(lane: Lane) -> &'static [u8]
+    ensures { result.now ≡ lane_word_of lane }
+{
+    match lane {
+        Lane::InBand => b"in",
+        Lane::Oob => b"oob",
+    }
+}
+
+fn cause_word(cause: Cause) -> &'static [u8]
+    ensures { result.now ≡ cause_word_of cause }
+{
+    match cause {
+        Cause::Ended => b"ended",
+        Cause::ReadFault => b"read-fault",
+        Cause::WriteFault => b"write-fault",
+        Cause::Overrun => b"overrun",
+        Cause::Stopped => b"stopped",
+        Cause::Limit => b"limit",
+        Cause::Memory => b"memory",
+        Cause::Halted => b"halted",
+    }
+}
+
+fn put_number(out: &mut Text, number: u64) -> Result<(), NoMemory>
+    ensures { OnOk result (out.new ≡ out.old ++ decimal number) }
+{
+    let mut buffer = Buffer::new();
+    out.extend(buffer.format(number).as_bytes())
+}
+
+fn put_place(out: &mut Text, word: &[u8], place: u64) -> Result<(), NoMemory>
+    ensures { OnOk result (out.new ≡ out.old ++ (word.now ++ decimal place)) }
+{
+    out.extend(word)?;
+    put_number(out, place)
+}
+
+fn put_json_word(out: &mut Text, word: JsonWord) -> Result<(), NoMemory>
+    ensures { OnOk result (out.new ≡ out.old ++ json_word_of word) }
+{
+    match word {
+        JsonWord::Expected(place) => put_place(out, b"expected ", place),
+        JsonWord::Duplicate(place) => put_place(out, b"duplicate ", place),
+        JsonWord::BadEscape(place) => put_place(out, b"bad-escape ", place),
+        JsonWord::BadUtf8(place) => put_place(out, b"bad-utf8 ", place),
+    }
+}
+
+fn put_bad_word(out: &mut Text, bad: BadInput) -> Result<(), NoMemory>
+    ensures { OnOk result (out.new ≡ out.old ++ bad_word_of bad) }
+{
+    match bad {
+        BadInput::Frame(word) => out.extend(frame_word(word)),
+        BadInput::Json(word) => put_json_word(out, word),
+    }
+}
+
+fn put_bad(out: &mut Text, bad: BadInput) -> Result<(), NoMemory>
+    ensures { OnOk result (out.new ≡ out.old ++ (codes "bad " ++ bad_word_of bad)) }
+{
+    out.extend(b"bad ")?;
+    put_bad_word(out, bad)
+}
+
+fn put_input(out: &mut Text, input: &Input) -> Result<(), NoMemory>
+    ensures { OnOk result (out.new ≡ out.old ++ input_text_of input.now) }
+{
+    match input {
+        Input::Doc(value) => value.get().write_text(out),
+        Input::Bad(bad) => put_bad(out, *bad),
+    }
+}
+
+fn put_request(out: &mut Text, session: u32, number: u64) -> Result<(), NoMemory>
+    ensures { OnOk result (out.new ≡ out.old ++ request_text_of session number) }
+{
+    put_number(out, u64::from(session))?;
+    out.push(b' ')?;
+    put_number(out, number)
+}
+
+fn put_line(out: &mut Text, line: &[u8]) -> Result<(), NoMemory>
+    ensures { OnOk result (out.new ≡ out.old ++ taken_text_of line.now) }
+{
+    out.extend(b"> ")?;
+    out.extend(line)?;
+    out.push(b'\n')
+}
+
+fn put_lines(out: &mut Text, lines: &[Shared<Text>]) -> Result<(), NoMemory>
+    ensures { OnOk result (out.new ≡ out.old ++ flat_map taken_text_of lines.now) }
+{
+    for line in lines {
+        put_line(out, line.get().as_slice())?;
+    }
+    Ok(())
+}
+
+fn put_open(out: &mut Text, session: u32) -> Result<(), NoMemory>
+    ensures { OnOk result (out.new ≡ out.old ++ (codes " open " ++ decimal session ++ codes "\n")) }
+{
+    out.extend(b" open ")?;
+    put_number(out, u64::from(session))?;
+    out.push(b'\n')
+}
+
+fn put_admit(
+    out: &mut Text,
+    session: u32,
+    number: u64,
+    lane: Lane,
+    input: &Input,
+) -> Result<(), NoMemory>
+    ensures { OnOk result (out.new ≡ out.old ++ (codes " admit " ++ request_text_of session number
+        ++ codes " " ++ lane_word_of lane ++ codes " " ++ input_text_of input.now ++ codes "\n")) }
+{
+    out.extend(b" admit ")?;
+    put_request(out, session, number)?;
+    out.push(b' ')?;
+    out.extend(lane_word(lane))?;
+    out.push(b' ')?;
+    put_input(out, input)?;
+    out.push(b'\n')
+}
+
+fn put_start(out: &mut Text, session: u32, number: u64) -> Result<(), NoMemory>
+    ensures { OnOk result (out.new ≡ out.old
+        ++ (codes " start " ++ request_text_of session number ++ codes "\n")) }
+{
+    out.extend(b" start ")?;
+    put_request(out, session, number)?;
+    out.push(b'\n')
+}
+
+fn put_done(
+    out: &mut Text,
+    session: u32,
+    number: u64,
+    reply: &Json,
+    moment: u64,
+) -> Result<(), NoMemory>
+    ensures { OnOk result (out.new ≡ out.old ++ (codes " done " ++ request_text_of session number
+        ++ codes " @" ++ decimal moment ++ codes " " ++ printed reply.now ++ codes "\n")) }
+{
+    out.extend(b" done ")?;
+    put_request(out, session, number)?;
+    out.extend(b" @")?;
+    put_number(out, moment)?;
+    out.push(b' ')?;
+    reply.write_text(out)?;
+    out.push(b'\n')
+}
+
+fn put_take(out: &mut Text, session: u32, lines: &[Shared<Text>]) -> Result<(), NoMemory>
+    ensures { OnOk result (out.new ≡ out.old ++ (codes " take " ++ decimal session ++ codes " "
+        ++ decimal (length lines.now) ++ codes "\n" ++ flat_map taken_text_of lines.now)) }
+{
+    out.extend(b" take ")?;
+    put_number(out, u64::from(session))?;
+    out.push(b' ')?;
+    put_number(out, lines.len() as u64)?;
+    out.push(b'\n')?;
+    put_lines(out, lines)
+}
+
+fn put_eof(out: &mut Text, session: u32) -> Result<(), NoMemory>
+    ensures { OnOk result (out.new ≡ out.old ++ (codes " eof " ++ decimal session ++ codes "\n")) }
+{
+    out.extend(b" eof ")?;
+    put_number(out, u64::from(session))?;
+    out.push(b'\n')
+}
+
+fn put_drop(out: &mut Text, session: u32, cause: Cause) -> Result<(), NoMemory>
+    ensures { OnOk result (out.new ≡ out.old
+        ++ (codes " drop " ++ decimal session ++ codes " " ++ cause_word_of cause ++ codes "\n")) }
+{
+    out.extend(b" drop ")?;
+    put_number(out, u64::from(session))?;
+    out.push(b' ')?;
+    out.extend(cause_word(cause))?;
+    out.push(b'\n')
+}
+
+fn put_event(out: &mut Text, entry: &Entry) -> Result<(), NoMemory>
+    ensures { OnOk result (out.new ≡ out.old ++ event_text_of entry.now) }
+{
+    match entry {
+        Entry::Open { session } => put_open(out, *session),
+        Entry::Admit {
+            session,
+            number,
+            lane,
+            input,
+        } => { put_admit(out, *session, *number, *lane, input) }
+        Entry::Start { session, number } => put_start(out, *session, *number),
+        Entry::Done {
+            session,
+            number,
+            reply,
+            moment,
+        } => { put_done(out, *session, *number, reply, *moment) }
+        Entry::Take { session, lines } => put_take(out, *session, lines.as_slice()),
+        Entry::Eof { session } => put_eof(out, *session),
+        Entry::Drop { session, cause } => put_drop(out, *session, *cause),
+    }
+}
+
+/// The lines of an entry: its number and what it says, and the lines that it handed out.
+pub fn entry_text(alloc: Global, number: u64, entry: &Entry) -> Result<Text, NoMemory>
+    ensures { IfOk result (λ text. text ≡ entry_text_of number entry.now) }
+{
+    let mut text = Text::new(alloc);
+    put_number(&mut text, number)?;
+    put_event(&mut text, entry)?;
+    Ok(text)
+}

@@ -1,0 +1,22 @@
+-- What the fields of a player keep (this project's own rule).
+use Rattle.std.specs.Prelude.{◌≡◌, cond, [], ◌∷◌, is_some, Some, None, Result, Ok, Err}
+use Rattle.std.specs.Option.{option_to_list}
+use Rattle.qm_core.specs.Legal.{past_of}
+use Rattle.qm_core.specs.Standing.{sessions_of}
+use Rattle.qm_script.specs.Players.{Playing}
+use Rattle.qm_script.specs.Playing.{Played}
+use Rattle.qm_script.specs.declared.endings.Stop.{Stop}
+use Rattle.qm_script.specs.declared.player.Player.TheInside.{Inside as Fields}
+use Rattle.qm_script.specs.declared.player.Turn.{Turn}
+
+abbrev pub shown : Fields → Playing
+shown p = record { entries = p.monitor.limits.entries; played = record { journal = p.monitor.journal; fed = option_to_list p.feeder } }
+
+-- there are bytes of the one session exactly where it was opened
+abbrev pub IsFed : Fields → Type 0
+IsFed p = sessions_of (past_of p.monitor.journal) ≡ cond (is_some p.feeder) (1 ∷ []) []
+
+-- the line was played, or refused and left the journal as it was
+abbrev pub Turns : Playing → Result Played Stop → Turn → Type 0
+Turns old (Ok next) turn = (turn.stop ≡ None) × (turn.player ≡ record { entries = old.entries; played = next })
+Turns old (Err stop) turn = (turn.stop ≡ Some stop) × (turn.player.played.journal ≡ old.played.journal)

@@ -1,0 +1,271 @@
+ghost use Rattle.std.specs.Prelude.{◌≡◌, ◌≤◌, ◌++◌, ◌∷◌, [], IfOk, IfSome, Some, None, length, slice_get, true};
+ghost use Rattle.qm_core.specs.Legal.{past_of};
+ghost use Rattle.qm_core.specs.Next.{Start, Take, End, Drop, session_refusal};
+ghost use Rattle.qm_core.specs.Next as step;
+ghost use Rattle.qm_core.specs.Standing.{admitted_of, named_of, running_of, was_opened};
+ghost use Rattle.qm_core.specs.declared.TheConstants.{MOST_ENTRIES};
+ghost use Rattle.qm_core.specs.declared.entries.Cause.TheVariants as cause;
+ghost use Rattle.qm_core.specs.Inputs.{IsCleanInput};
+ghost use Rattle.qm_script.specs.Fed.{fed_inputs_of};
+ghost use Rattle.qm_script.specs.Endings.{stop_of as stop_of_fault};
+ghost use Rattle.qm_script.specs.Orders.{fed_by as fed_by_of, order_of};
+ghost use Rattle.qm_script.specs.Playing.{nothing_played, core_step, open_step, fed_step, admit_step, fed_to, finish_step, ordered, line_step};
+
+use crate::MOST_LINES;
+use crate::endings::{StepWord, Stop};
+use crate::feeder::Feeder;
+use crate::orders::{Order, fed_by, order_of_line};
+use qm_base::NoMemory;
+use qm_core::{Cause, EntryList, Input, Limits, Monitor, Offer, StepFault};
+use std::alloc::Global;
+use std::marker::Model;
+
+/// A monitor that is played on, and the bytes that were fed to its session.
+#[derive(Drop)]
+pub struct Player {
+    monitor: Monitor,
+    feeder: Option<Feeder>,
+}
+
+impl Model for Player {
+    ghost use Rattle.qm_script.specs.Playing.{Played};
+    ghost use Rattle.qm_script.specs.Players.{Playing, playing_code};
+    ghost use Rattle.qm_core.specs.contracts.entries.Entry as entry;
+
+    ghost Value = { Playing };
+
+    ghost coded = { playing_code entry.the_row.coded };
+
+    ghost use Rattle.qm_script.specs.Kept.{shown, IsFed};
+
+    ghost view = { shown };
+
+    ghost invariant = { IsFed };
+}
+
+/// A player after a line, and why the line was refused, where it was.
+#[derive(Drop)]
+pub struct Turn {
+    /// The player.
+    pub player: Player,
+    /// Why the line was refused.
+    pub stop: Option<Stop>,
+}
+
+fn stop_of(fault: StepFault) -> Stop
+    ensures { result ≡ stop_of_fault fault }
+{
+    match fault {
+        StepFault::NoSession => Stop::Step(StepWord::NoSession),
+        StepFault::Closed => Stop::Step(StepWord::Closed),
+        StepFault::InputEnded => Stop::Step(StepWord::InputEnded),
+        StepFault::Busy => Stop::Step(StepWord::Busy),
+        StepFault::Nothing => Stop::Step(StepWord::Nothing),
+        StepFault::NotRunning => Stop::Step(StepWord::NotRunning),
+        StepFault::NotDrained => Stop::Step(StepWord::NotDrained),
+        StepFault::WrongCause => Stop::Step(StepWord::WrongCause),
+        StepFault::SessionsFull => Stop::SessionsFull,
+        StepFault::JournalFull => Stop::JournalFull,
+        StepFault::Memory => Stop::BadLine,
+    }
+}
+
+impl Player {
+    ghost use Rattle.qm_script.specs.Kept.{Turns};
+
+    /// A player that has played nothing.
+    pub fn new(alloc: Global, limits: Limits) -> Result<Player, NoMemory>
+        requires some { 1 ≤ limits.entries }
+        requires few { limits.entries ≤ MOST_ENTRIES }
+        ensures { IfOk result (λ player. player ≡ record { entries = limits.entries; played = nothing_played }) }
+    {
+        let monitor = Monitor::new(alloc, limits)?;
+        Ok(Player {
+            monitor,
+            feeder: None,
+        })
+    }
+
+    /// The journal.
+    pub fn journal(&self) -> &EntryList
+        ensures { result.now.items ≡ self.now.played.journal }
+    {
+        self.monitor.journal()
+    }
+
+    fn refused(self, stop: Stop) -> Turn
+        ensures { result ≡ record { player = self; stop = Some stop } }
+    {
+        Turn {
+            player: self,
+            stop: Some(stop),
+        }
+    }
+
+    fn stepped(self) -> Turn
+        ensures { result ≡ record { player = self; stop = None } }
+    {
+        Turn {
+            player: self,
+            stop: None,
+        }
+    }
+
+    fn open(mut self, alloc: Global) -> Result<Turn, NoMemory>
+        ensures { IfOk result (Turns self (open_step self.entries self.played)) }
+    {
+        if self.feeder.is_some() {
+            return Ok(self.refused(Stop::BadLine));
+        }
+        let feeder = Feeder::new(alloc)?;
+        match self.monitor.open(alloc) {
+            Ok(_) => {
+                self.feeder = Some(feeder);
+                Ok(self.stepped())
+            }
+            Err(StepFault::Memory) => Err(NoMemory),
+            Err(fault) => Ok(self.refused(stop_of(fault))),
+        }
+    }
+
+    fn text(self, alloc: Global, session: u32, line: &[u8]) -> Result<Turn, NoMemory>
+        ensures { IfOk result (Turns self (fed_step self.played session (fed_by_of line.now ++ 10 ∷ [])
+            (session_refusal session (past_of self.played.journal) None))) }
+    {
+        if !self.monitor.is_known(session) {
+            return Ok(self.refused(Stop::Step(StepWord::NoSession)));
+        }
+        if self.monitor.is_closed(session) {
+            return Ok(self.refused(Stop::Step(StepWord::Closed)));
+        }
+        let Player { monitor, feeder } = self;
+        let Some(feeder) = feeder else { unreachable!() };
+        let feeder = feeder.fed(alloc, fed_by(line))?;
+        let feeder = feeder.fed(alloc, b"\n")?;
+        let player = Player {
+            monitor,
+            feeder: Some(feeder),
+        };
+        Ok(player.stepped())
+    }
+
+    fn next_input(&self, session: u32) -> Result<Option<Input>, NoMemory>
+        requires { was_opened session (past_of self.now.played.journal) ≡ true }
+        ensures value { IfOk result (λ input. input ≡ slice_get (fed_inputs_of (fed_to session self.now.played.fed))
+            (admitted_of session (past_of self.now.played.journal))) }
+        ensures clean { IfOk result (λ input. IfSome input IsCleanInput) }
+    {
+        match &self.feeder {
+            Some(feeder) => feeder.input(self.monitor.admitted(session)),
+            None => Ok(None),
+        }
+    }
+
+    fn admit_input(mut self, alloc: Global, session: u32, input: Input) -> Result<Turn, NoMemory>
+        requires { IsCleanInput input }
+        ensures { IfOk result (Turns self (core_step self.entries self.played (step.Admit session input))) }
+    {
+        let mut offer = Offer::of(alloc, input)?;
+        match self.monitor.admit(session, &mut offer) {
+            Ok(_) => Ok(self.stepped()),
+            Err(fault) => Ok(self.refused(stop_of(fault))),
+        }
+    }
+
+    fn admit(self, alloc: Global, session: u32) -> Result<Turn, NoMemory>
+        ensures { IfOk result (Turns self (admit_step self.entries self.played session
+            (session_refusal session (past_of self.played.journal) None))) }
+    {
+        if !self.monitor.is_known(session) {
+            return Ok(self.refused(Stop::Step(StepWord::NoSession)));
+        }
+        if self.monitor.is_closed(session) {
+            return Ok(self.refused(Stop::Step(StepWord::Closed)));
+        }
+        match self.next_input(session)? {
+            Some(input) => self.admit_input(alloc, session, input),
+            None => Ok(self.refused(Stop::Step(StepWord::NoFrame))),
+        }
+    }
+
+    fn start(mut self) -> Turn
+        ensures { Turns self (core_step self.entries self.played Start) result }
+    {
+        match self.monitor.start() {
+            Ok(_) => self.stepped(),
+            Err(fault) => self.refused(stop_of(fault)),
+        }
+    }
+
+    fn finish(mut self, alloc: Global, moment: u64) -> Result<Turn, NoMemory>
+        ensures { IfOk result (Turns self (finish_step self.entries self.played moment
+            (named_of (running_of (past_of self.played.journal))))) }
+    {
+        let Some(request) = self.monitor.running() else {
+            return Ok(self.refused(Stop::Step(StepWord::NotRunning)));
+        };
+        match self
+            .monitor
+            .finish(alloc, request.session, request.number, moment)
+        {
+            Ok(()) => Ok(self.stepped()),
+            Err(StepFault::Memory) => Err(NoMemory),
+            Err(fault) => Ok(self.refused(stop_of(fault))),
+        }
+    }
+
+    fn take(mut self, session: u32) -> Turn
+        ensures { Turns self (core_step self.entries self.played (Take session)) result }
+    {
+        match self.monitor.take(session) {
+            Ok(_) => self.stepped(),
+            Err(fault) => self.refused(stop_of(fault)),
+        }
+    }
+
+    fn end(mut self, session: u32) -> Turn
+        ensures { Turns self (core_step self.entries self.played (End session)) result }
+    {
+        match self.monitor.end(session) {
+            Ok(()) => self.stepped(),
+            Err(fault) => self.refused(stop_of(fault)),
+        }
+    }
+
+    fn drop_ended(mut self, session: u32) -> Turn
+        ensures { Turns self (core_step self.entries self.played (Drop session cause.Ended)) result }
+    {
+        match self.monitor.drop_session(session, Cause::Ended) {
+            Ok(()) => self.stepped(),
+            Err(fault) => self.refused(stop_of(fault)),
+        }
+    }
+
+    fn ordered(self, alloc: Global, order: Order, line: &[u8]) -> Result<Turn, NoMemory>
+        ensures { IfOk result (Turns self (ordered self.entries self.played line.now (Some order))) }
+    {
+        match order {
+            Order::Open => self.open(alloc),
+            Order::Text(session) => self.text(alloc, session, line),
+            Order::Admit(session) => self.admit(alloc, session),
+            Order::Start => Ok(self.start()),
+            Order::Finish(moment) => self.finish(alloc, moment),
+            Order::Take(session) => Ok(self.take(session)),
+            Order::Eof(session) => Ok(self.end(session)),
+            Order::DropEnded(session) => Ok(self.drop_ended(session)),
+        }
+    }
+
+    /// Plays the line of this number, from 1 on.
+    pub fn line(self, alloc: Global, number: u32, line: &[u8]) -> Result<Turn, NoMemory>
+        ensures { IfOk result (Turns self (line_step self.entries number self.played line.now)) }
+    {
+        if number > MOST_LINES {
+            return Ok(self.refused(Stop::BadLine));
+        }
+        match order_of_line(line) {
+            Some(order) => self.ordered(alloc, order, line),
+            None => Ok(self.refused(Stop::BadLine)),
+        }
+    }
+}

@@ -1,0 +1,123 @@
+ghost use Rattle.std.specs.Prelude.{◌≡◌, ◌≢◌, ◌≤◌, ◌++◌, IfOk, Err, length};
+ghost use Rattle.qm_base.specs.Faults.{Puts, Rose};
+ghost use Rattle.qm_core.specs.Texts.{text_of};
+ghost use Rattle.qm_script.specs.Endings.{closing_of};
+ghost use Rattle.qm_core.specs.declared.TheConstants.{MOST_ENTRIES};
+ghost use Rattle.qm_script.specs.Lines.{lines_of};
+ghost use Rattle.qm_script.specs.Playing.{played_from, played_of};
+ghost use Rattle.qm_script.specs.Plays.{Plays};
+ghost use Rattle.qm_script.specs.Runs.{Finishes};
+
+use crate::closings::{closing, end_of};
+use crate::endings::{PlayEnd, Refused};
+use crate::lines::first_line;
+use crate::player::{Player, Turn};
+use qm_base::NoMemory;
+use qm_core::{EntryList, Limits};
+use qm_history::{HistoryFault, write_history};
+use qm_link::{Sink, SinkFailed};
+use std::alloc::Global;
+
+/// A player after a script, and the line that was refused, if one was.
+#[derive(Drop)]
+pub struct Finished {
+    /// The player.
+    pub player: Player,
+    /// The line that was refused.
+    pub refused: Option<Refused>,
+}
+
+fn run(alloc: Global, player: Player, script: &[u8]) -> Result<Finished, NoMemory>
+    ensures { IfOk result (Finishes (played_from player.entries 1 player.played (lines_of script.now))) }
+{
+    let mut player = player;
+    let mut rest = script;
+    let mut number = 0u32;
+    while rest.len() > 0 {
+        let (line, later) = first_line(rest);
+        number += 1;
+        let Turn { player: next, stop } = player.line(alloc, number, line)?;
+        if let Some(stop) = stop {
+            let refused = Refused { line: number, stop };
+            return Ok(Finished {
+                player: next,
+                refused: Some(refused),
+            });
+        }
+        player = next;
+        rest = later;
+    }
+    Ok(Finished {
+        player,
+        refused: None,
+    })
+}
+
+fn put_closing<S: Sink>(
+    alloc: Global,
+    refused: Option<Refused>,
+    entries: u64,
+    sink: &mut S,
+) -> Result<(), HistoryFault>
+    ensures text { Puts (S.contents sink.old) (closing_of refused entries) result (S.contents sink.new) }
+    ensures failed { result ≡ Err HistoryFault.SinkFault → Rose (S.faults sink.old) (S.faults sink.new) }
+    ensures kept { result ≢ Err HistoryFault.SinkFault → S.faults sink.new ≡ S.faults sink.old }
+{
+    match closing(alloc, refused, entries) {
+        Ok(line) => match sink.put(line.as_slice()) {
+            Ok(()) => Ok(()),
+            Err(SinkFailed) => Err(HistoryFault::SinkFault),
+        },
+        Err(NoMemory) => Err(HistoryFault::Memory),
+    }
+}
+
+fn put_transcript<S: Sink>(
+    alloc: Global,
+    journal: &EntryList,
+    refused: Option<Refused>,
+    sink: &mut S,
+) -> Result<(), HistoryFault>
+    ensures text { Puts (S.contents sink.old) (text_of journal.now.items ++ closing_of refused (length journal.now.items))
+        result (S.contents sink.new) }
+    ensures failed { result ≡ Err HistoryFault.SinkFault → Rose (S.faults sink.old) (S.faults sink.new) }
+    ensures kept { result ≢ Err HistoryFault.SinkFault → S.faults sink.new ≡ S.faults sink.old }
+{
+    match write_history(alloc, journal, sink) {
+        Ok(()) => put_closing(alloc, refused, journal.len() as u64, sink),
+        Err(fault) => Err(fault),
+    }
+}
+
+fn replayed(alloc: Global, limits: Limits, script: &[u8]) -> Result<Finished, NoMemory>
+    requires some { 1 ≤ limits.entries }
+    requires few { limits.entries ≤ MOST_ENTRIES }
+    ensures { IfOk result (Finishes (played_of limits.entries script.now)) }
+{
+    let player = Player::new(alloc, limits)?;
+    run(alloc, player, script)
+}
+
+/// Plays a script, and puts its transcript into the sink: the text of the journal and the closing
+/// line. `SinkFault` comes exactly where the sink's count of faults rises.
+pub fn play<S: Sink>(alloc: Global, limits: Limits, script: &[u8], sink: &mut S) -> PlayEnd
+    requires some { 1 ≤ limits.entries }
+    requires few { limits.entries ≤ MOST_ENTRIES }
+    ensures { Plays (played_of limits.entries script.now) record {
+      held = S.contents sink.old;
+      holds = S.contents sink.new;
+      before = S.faults sink.old;
+      now = S.faults sink.new;
+    } result }
+{
+    match replayed(alloc, limits, script) {
+        Ok(finished) => {
+            match put_transcript(alloc, finished.player.journal(), finished.refused, sink) {
+                Ok(()) => end_of(finished.refused),
+                Err(HistoryFault::SinkFault) => PlayEnd::SinkFault,
+                Err(HistoryFault::Memory) => PlayEnd::Memory,
+            }
+        }
+        Err(NoMemory) => PlayEnd::Memory,
+    }
+}

@@ -1,0 +1,52 @@
+-- What the program puts out, and its status, for words and files (this project's own rule).
+use Rattle.std.specs.Prelude.{ℕ, List, ◌++◌, codes, Option, Some, None}
+use Rattle.qapi_load.specs.Files.{NamedText, text_of}
+use Rattle.qm_core.specs.declared.TheConstants.{MOST_ENTRIES}
+use Rattle.qm_script.specs.Playing.{Ended, played_of, transcript_text_of}
+use Rattle.qm_script.specs.Endings.{end_of}
+use Rattle.qm_script.specs.declared.endings.PlayEnd.{PlayEnd}
+use Rattle.qm_script.specs.declared.endings.PlayEnd.TheVariants as end
+use Rattle.qmpd.specs.Words.{script_of}
+
+pub record Output : Type 0 where
+  pub status : ℕ
+  pub bytes : List ℕ
+
+-- the words are outside the grammar
+abbrev pub usage : Output
+usage = record {
+  status = 2;
+  bytes = codes "error: usage: qmpd check|introspect|replay SCRIPT|serve SOCKET|drill N [--schema F] [--bind F] [--define A,B] [--journal N] [--workers N]\n";
+}
+
+-- there is no such script
+abbrev pub missing : List ℕ → Output
+missing name = record { status = 5; bytes = codes "error: script " ++ name ++ codes ": no-file\n" }
+
+-- the status of an end
+abbrev pub end_status_of : PlayEnd → ℕ
+end_status_of end.Done = 0
+end_status_of (end.BadLine line) = 5
+end_status_of (end.WrongStep line word) = 5
+end_status_of (end.Full line) = 9
+end_status_of end.SinkFault = 7
+end_status_of end.Memory = 1
+
+abbrev pub replayed : Ended → Output
+replayed ended = record { status = end_status_of (end_of ended.refused); bytes = transcript_text_of ended }
+
+abbrev pub replay_of : List ℕ → Option (List ℕ) → Output
+replay_of name None = missing name
+replay_of name (Some script) = replayed (played_of MOST_ENTRIES script)
+
+abbrev pub run_of : Option (List ℕ) → List NamedText → Output
+run_of None files = usage
+run_of (Some name) files = replay_of name (text_of name files)
+
+-- the status and the bytes for words and files
+abbrev pub output_of : List (List ℕ) → List NamedText → Output
+output_of words files = run_of (script_of words) files
+
+-- the line that names a file whose reading failed
+abbrev pub cannot_read : List ℕ → List ℕ
+cannot_read name = codes "error: cannot read " ++ name ++ codes "\n"

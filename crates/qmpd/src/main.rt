@@ -1,0 +1,37 @@
+//! qmpd: a monitor server that speaks the QEMU Machine Protocol.
+#![tactic(auto)]
+
+mod offline;
+mod outside;
+mod words;
+
+use offline::run_offline;
+use outside::{FileLibrary, OutSink};
+use std::process::ExitCode;
+use std::{env, io};
+
+fn gathered(rt: &HostRuntime) -> io::Result<Vec<String>> {
+    let mut words = Vec::new(rt.alloc());
+    let mut is_name = true;
+    for word in env::args(rt)? {
+        if !is_name {
+            words.push(word)?;
+        }
+        is_name = false;
+    }
+    Ok(words)
+}
+
+fn main(rt: HostRuntime) -> ExitCode {
+    let mut library = FileLibrary::new(rt.alloc(), &rt);
+    let mut sink = OutSink::new(&rt);
+    match gathered(&rt) {
+        Ok(words) => ExitCode::from(run_offline(
+            rt.alloc(),
+            words.as_slice(),
+            &mut library,
+            &mut sink,
+        )),
+        Err(_) => ExitCode::from(run_offline(rt.alloc(), &[], &mut library, &mut sink)),
+    }
+}

@@ -1,0 +1,153 @@
+ghost use Rattle.std.specs.Prelude.{◌≡◌, ◌≢◌, ◌++◌, IfOk, Some, None, codes, map, string_bytes};
+ghost use Rattle.qmpd.specs.Answers.{Answers, Ends};
+ghost use Rattle.qmpd.specs.Output.{usage, missing as missing_of, replayed, end_status_of, cannot_read as cannot_read_line};
+ghost use Rattle.qm_script.specs.Playing.{played_of};
+ghost use Rattle.qm_core.specs.declared.TheConstants.{MOST_ENTRIES};
+ghost use Rattle.qmpd.specs.Words.{script_of as script_of_words};
+
+use crate::words::script_of;
+use qapi_load::{Library, LibraryFault};
+use qm_base::{NoMemory, Text};
+use qm_core::{Limits, MOST_ENTRIES};
+use qm_link::{Sink, SinkFailed};
+use qm_script::{PlayEnd, play};
+use std::alloc::Global;
+
+const USAGE: &[u8] =
+    b"error: usage: qmpd check|introspect|replay SCRIPT|serve SOCKET|drill N [--schema F] [--bind F] [--define A,B] [--journal N] [--workers N]\n";
+
+fn missing(alloc: Global, name: &[u8]) -> Result<Text, NoMemory>
+    ensures { IfOk result (λ line. line ≡ (missing_of name.now).bytes) }
+{
+    let mut line = Text::of(alloc, b"error: script ")?;
+    line.extend(name)?;
+    line.extend(b": no-file\n")?;
+    Ok(line)
+}
+
+fn cannot_read(alloc: Global, name: &[u8]) -> Result<Text, NoMemory>
+    ensures { IfOk result (λ line. line ≡ cannot_read_line name.now) }
+{
+    let mut line = Text::of(alloc, b"error: cannot read ")?;
+    line.extend(name)?;
+    line.push(b'\n')?;
+    Ok(line)
+}
+
+fn status(end: PlayEnd) -> u8
+    ensures { result ≡ end_status_of end }
+{
+    match end {
+        PlayEnd::Done => 0,
+        PlayEnd::BadLine(_) | PlayEnd::WrongStep(_, _) => 5,
+        PlayEnd::Full(_) => 9,
+        PlayEnd::SinkFault => 7,
+        PlayEnd::Memory => 1,
+    }
+}
+
+fn put<S: Sink>(line: &[u8], wanted: u8, sink: &mut S) -> u8
+    requires sink { wanted ≢ 7 }
+    requires memory { wanted ≢ 1 }
+    ensures ends { Ends line.now wanted record {
+      held = S.contents sink.old;
+      holds = S.contents sink.new;
+      before = S.faults sink.old;
+      now = S.faults sink.new;
+    } result }
+    ensures remembers { result ≢ 1 }
+{
+    match sink.put(line) {
+        Ok(()) => wanted,
+        Err(SinkFailed) => 7,
+    }
+}
+
+fn refuse_words<S: Sink>(sink: &mut S) -> u8
+    ensures { Ends usage.bytes 2 record {
+      held = S.contents sink.old;
+      holds = S.contents sink.new;
+      before = S.faults sink.old;
+      now = S.faults sink.new;
+    } result }
+{
+    put(USAGE, 2, sink)
+}
+
+fn refuse_missing<S: Sink>(alloc: Global, name: &[u8], sink: &mut S) -> u8
+    ensures { Ends (missing_of name.now).bytes 5 record {
+      held = S.contents sink.old;
+      holds = S.contents sink.new;
+      before = S.faults sink.old;
+      now = S.faults sink.new;
+    } result }
+{
+    match missing(alloc, name) {
+        Ok(line) => put(line.as_slice(), 5, sink),
+        Err(NoMemory) => 1,
+    }
+}
+
+fn refuse_unread<S: Sink>(alloc: Global, name: &[u8], sink: &mut S) -> u8
+    ensures line { Ends (cannot_read_line name.now) 6 record {
+      held = S.contents sink.old;
+      holds = S.contents sink.new;
+      before = S.faults sink.old;
+      now = S.faults sink.new;
+    } result }
+    ensures nothing { result ≡ 1 → S.contents sink.new ≡ S.contents sink.old }
+{
+    match cannot_read(alloc, name) {
+        Ok(line) => put(line.as_slice(), 6, sink),
+        Err(NoMemory) => 1,
+    }
+}
+
+fn replay<S: Sink>(alloc: Global, script: &[u8], sink: &mut S) -> u8
+    ensures { Ends (replayed (played_of MOST_ENTRIES script.now)).bytes (replayed (played_of MOST_ENTRIES script.now)).status record {
+      held = S.contents sink.old;
+      holds = S.contents sink.new;
+      before = S.faults sink.old;
+      now = S.faults sink.new;
+    } result }
+{
+    let limits = Limits {
+        entries: MOST_ENTRIES,
+    };
+    status(play(alloc, limits, script, sink))
+}
+
+/// Runs a command line without threads, and answers its status: 0 where all went well; 1 where
+/// memory was wanting; 2 where the words are outside the grammar; 5 where the script is missing or
+/// a line of it is refused; 6 where the library failed; 7 where the sink failed; 9 where the
+/// journal or the sessions are full. It always returns.
+pub fn run_offline<L: Library, S: Sink>(
+    alloc: Global,
+    words: &[String],
+    library: &mut L,
+    sink: &mut S,
+) -> u8
+    ensures { Answers record {
+      script = script_of_words (map string_bytes words.now);
+      files = L.files library.old;
+      library_before = L.faults library.old;
+      library_now = L.faults library.new;
+      failed_name = L.failed_name library.new;
+      sink = record {
+        held = S.contents sink.old;
+        holds = S.contents sink.new;
+        before = S.faults sink.old;
+        now = S.faults sink.new;
+      };
+    } result }
+{
+    let Some(name) = script_of(words) else {
+        return refuse_words(sink);
+    };
+    match library.text(alloc, name) {
+        Ok(Some(script)) => replay(alloc, script.as_slice(), sink),
+        Ok(None) => refuse_missing(alloc, name, sink),
+        Err(LibraryFault::Failed) => refuse_unread(alloc, name, sink),
+        Err(LibraryFault::Memory) => 1,
+    }
+}

@@ -1,0 +1,130 @@
+use qapi_load::{Library, LibraryFault};
+use qm_base::{NoMemory, Text};
+use qm_link::{Sink, SinkFailed};
+use std::alloc::Global;
+use std::io::{ErrorKind, Read, Write};
+use std::rt::Files;
+use std::{fs, io, str};
+
+const MOST_BYTES: usize = 67_108_864;
+
+/// Why a file was not read.
+enum ReadFault {
+    Missing,
+    Failed,
+    Memory,
+}
+
+fn read_whole<F: Read>(alloc: Global, file: &mut F) -> Result<Text, ReadFault> {
+    let mut text = Text::new(alloc);
+    let mut buffer = [0u8; 8192];
+    for _ in 0..u64::MAX {
+        let count = match file.read(&mut buffer) {
+            Ok(count) => count,
+            Err(_) => return Err(ReadFault::Failed),
+        };
+        if count == 0 {
+            return Ok(text);
+        }
+        if text.extend(&buffer[..count]).is_err() {
+            return Err(ReadFault::Memory);
+        }
+        if text.len() > MOST_BYTES {
+            return Err(ReadFault::Failed);
+        }
+    }
+    Err(ReadFault::Failed)
+}
+
+fn read_file<R: Files>(alloc: Global, rt: &R, name: &[u8]) -> Result<Text, ReadFault> {
+    let Ok(path) = str::from_utf8(name) else {
+        return Err(ReadFault::Missing);
+    };
+    match fs::open(rt, path) {
+        Ok(mut file) => read_whole(alloc, &mut file),
+        Err(fault) => {
+            if fault.kind() == ErrorKind::NotFound {
+                Err(ReadFault::Missing)
+            } else {
+                Err(ReadFault::Failed)
+            }
+        }
+    }
+}
+
+/// The files of the system by their paths. It tells no texts.
+#[derive(Drop)]
+pub struct FileLibrary<'a, R> {
+    rt: &'a R,
+    faults: u64,
+    failed_name: Text,
+}
+
+impl<'a, R> FileLibrary<'a, R> {
+    /// A library of which no call has failed.
+    pub fn new(alloc: Global, rt: &'a R) -> FileLibrary<'a, R> {
+        FileLibrary {
+            rt,
+            faults: 0,
+            failed_name: Text::new(alloc),
+        }
+    }
+}
+
+impl<R: Files> Library for FileLibrary<'_, R> {
+    ghost use Rattle.std.specs.Prelude.{None};
+
+    ghost files = { λ _. None };
+
+    ghost faults = { λ l. l.faults };
+
+    ghost failed_name = { λ l. l.failed_name };
+
+    fn text(&mut self, alloc: Global, name: &[u8]) -> Result<Option<Text>, LibraryFault> {
+        match read_file(alloc, self.rt, name) {
+            Ok(text) => Ok(Some(text)),
+            Err(ReadFault::Missing) => Ok(None),
+            Err(ReadFault::Memory) => Err(LibraryFault::Memory),
+            Err(ReadFault::Failed) => match Text::of(alloc, name) {
+                Ok(name) => {
+                    self.failed_name = name;
+                    self.faults = self.faults.saturating_add(1);
+                    Err(LibraryFault::Failed)
+                }
+                Err(NoMemory) => Err(LibraryFault::Memory),
+            },
+        }
+    }
+}
+
+/// Standard output. It tells no bytes.
+#[derive(Drop)]
+pub struct OutSink<'a, R> {
+    rt: &'a R,
+    faults: u64,
+}
+
+impl<'a, R> OutSink<'a, R> {
+    /// A sink of which no call has failed.
+    pub fn new(rt: &'a R) -> OutSink<'a, R> {
+        OutSink { rt, faults: 0 }
+    }
+}
+
+impl<R: Print> Sink for OutSink<'_, R> {
+    ghost use Rattle.std.specs.Prelude.{None};
+
+    ghost contents = { λ _. None };
+
+    ghost faults = { λ s. s.faults };
+
+    fn put(&mut self, piece: &[u8]) -> Result<(), SinkFailed> {
+        match io::writer(self.rt).write_all(piece) {
+            Ok(()) => Ok(()),
+            Err(_) => {
+                self.faults = self.faults.saturating_add(1);
+                Err(SinkFailed)
+            }
+        }
+    }
+}
