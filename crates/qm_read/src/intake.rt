@@ -1,4 +1,5 @@
 ghost use Rattle.std.specs.Prelude.{◌≡◌, ◌≢◌, [], ◌∷◌, IfOk, IfErr, Ok, Err};
+ghost use Rattle.qm_read.specs.Bytes.{byte_at};
 ghost use Rattle.qm_read.specs.Feeding.{fed, Finds, begins, moved, stopped, LiesBefore};
 ghost use Rattle.qm_read.specs.Stacks.{begun};
 
@@ -63,8 +64,7 @@ impl Intake {
 
     /// Takes a byte at which no piece goes on.
     fn begin(&mut self, byte: u8, place: u64) -> Result<(), JsonFault>
-        ensures { let x = record { code = byte; place = place } in
-            Finds self.old.state (begins x) result self.new }
+        ensures { Finds self.old.state (begins (byte_at byte place)) result self.new }
     {
         if is_space(byte) {
             self.last = Last::Whole;
@@ -87,8 +87,7 @@ impl Intake {
     /// Ends the piece before the byte, or with it.
     fn stop(&mut self, byte: u8, place: u64) -> Result<(), JsonFault>
         requires { LiesBefore self.old.last place }
-        ensures { let x = record { code = byte; place = place } in
-            Finds self.old.state (stopped self.old.last x) result self.new }
+        ensures { Finds self.old.state (stopped self.old.last (byte_at byte place)) result self.new }
     {
         match mem::replace(&mut self.last, Last::Whole) {
             Last::Whole => self.begin(byte, place),
@@ -113,8 +112,7 @@ impl Intake {
     /// Takes the next byte, which stands at this place.
     pub fn push(&mut self, byte: u8, place: u64) -> Result<(), JsonFault>
         requires { LiesBefore self.old.last place }
-        ensures { let x = record { code = byte; place = place } in
-            Finds self.old.state (moved self.old.last x) result self.new }
+        ensures { Finds self.old.state (moved self.old.last (byte_at byte place)) result self.new }
     {
         if continues(&self.last, byte) {
             match lengthen(&mut self.last, byte) {
