@@ -13,7 +13,7 @@ use Rattle.qm_read.specs.declared.stack.Expect.{Expect}
 use Rattle.qm_read.specs.declared.stack.Expect.TheVariants.{Value, ValueOrEnd, Name, NameOrEnd, Colon, CommaOrEnd, End}
 use Rattle.qm_frame.specs.declared.step.TheConstants.{MAX_DEPTH}
 use Rattle.qm_json.specs.Members.{has_name}
-use Rattle.qm_read.specs.Steps.{State, begun, takes_value, takes_name, put}
+use Rattle.qm_read.specs.Stacks.{State, begun, takes_value, takes_name, put}
 use Rattle.qm_read.specs.Faults.{run, ended, reading}
 use Rattle.qm_read.specs.Tokens.{at}
 use Rattle.qm_read.specs.Spelling.{SpellsValue, null, bool, int, num, string, no_items, array, no_members, object, SpellsItems, item, more_items, SpellsMembers, member, more_members}

@@ -9,7 +9,8 @@ use Rattle.std.specs.Str.{continuation_len, is_utf8, IsUtf8}
 use Rattle.qm_read.specs.declared.fault.JsonFault.{JsonFault}
 use Rattle.qm_read.specs.declared.fault.JsonFault.TheVariants.{BadEscape, BadUtf8, Memory}
 use Rattle.qm_read.specs.declared.strings.Part.{Part}
-use Rattle.qm_read.specs.Strings.{is_hex, hex_of, unicode_of, pair_of, unicode_escape, escaped_byte, short_escape, escape, character, part, text_in, more_in, followed_by, after_part, text_after, text_of}
+use Rattle.qm_read.specs.Escapes.{is_hex, hex_of, unicode_of, pair_of, unicode_escape, escaped_byte, short_escape, escape}
+use Rattle.qm_read.specs.Strings.{character, part, text_in, more_in, followed_by, after_part, text_after, text_of}
 
 -- UTF-8, or a fault of the text
 abbrev pub IsClear : Result (List ℕ) JsonFault → Type 0

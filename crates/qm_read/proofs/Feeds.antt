@@ -7,9 +7,9 @@ use Rattle.qm_read.specs.declared.fault.JsonFault.{JsonFault}
 use Rattle.qm_read.specs.declared.token.Last.{Last}
 use Rattle.qm_read.specs.declared.token.Last.TheVariants.{Whole, Number, Word, Str}
 use Rattle.qm_read.specs.declared.token.Placed.{Placed}
-use Rattle.qm_read.specs.Bytes.{Byte, numbered}
+use Rattle.qm_read.specs.Bytes.{Byte, byte_at, numbered}
 use Rattle.qm_read.specs.Tokens.{found, closing, tokens_in, tokens_of}
-use Rattle.qm_read.specs.Steps.{State, begun}
+use Rattle.qm_read.specs.Stacks.{State, begun}
 use Rattle.qm_read.specs.Faults.{run, ended, reading, reading_of}
 use Rattle.qm_read.specs.Feeding.{begins, moved, fed, LiesBefore}
 use Rattle.qm_read.specs.Strings.{ends_string}
@@ -37,9 +37,9 @@ fed-fault last f [] n = refl
 fed-fault last f (x ∷ xs) n = fed-fault (moved last x).rest f xs n
 
 -- the next byte is refused
-pub refused : (text : List ℕ) (i : ℕ) (last : Last) (s : State) (f : JsonFault) (n : ℕ) (whole : Result Json JsonFault) → i < length text → run s (moved last (record { code = get_or text i 0; place = i })).answers ≡ Err f → fed last (Ok s) (numbered i (drop i text)) n ≡ whole → Err f ≡ whole
+pub refused : (text : List ℕ) (i : ℕ) (last : Last) (s : State) (f : JsonFault) (n : ℕ) (whole : Result Json JsonFault) → i < length text → run s (moved last (byte_at (get_or text i 0) i)).answers ≡ Err f → fed last (Ok s) (numbered i (drop i text)) n ≡ whole → Err f ≡ whole
 refused text i last s f n whole lt e w =
-    let x : Byte = record { code = get_or text i 0; place = i } in
+    let x : Byte = byte_at (get_or text i 0) i in
     sym (fed-fault (moved last x).rest f (numbered (i + 1) (drop (suc i) text)) n)
     ∙ ap (λ (r : Result State JsonFault). fed (moved last x).rest r (numbered (i + 1) (drop (suc i) text)) n) (sym e)
     ∙ ap (λ (l : List ℕ). fed last (Ok s) (numbered i l) n) (sym (drop-cons text i 0 lt))

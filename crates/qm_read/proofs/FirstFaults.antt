@@ -9,7 +9,8 @@ use Rattle.qm_read.specs.declared.token.Token.TheVariants as tokens
 use Rattle.qm_read.specs.declared.token.Placed.{Placed}
 use Rattle.qm_read.specs.Tokens.{at}
 use Rattle.qm_read.specs.Spelling.{SpellsValue}
-use Rattle.qm_read.specs.Steps.{State, begun, step}
+use Rattle.qm_read.specs.Stacks.{State, begun}
+use Rattle.qm_read.specs.Steps.{step}
 use Rattle.qm_read.specs.Faults.{run, on, whole, ended, reading}
 use Rattle.qm_read.specs.Viable.{BeginsValue, IsMisplaced, FirstFault, wrong, misplaced, twice, short}
 use Rattle.qm_read.proofs.Accepts.{reading-spelled}

@@ -15,7 +15,8 @@ use Rattle.qm_read.specs.declared.stack.Expect.{Expect}
 use Rattle.qm_read.specs.declared.stack.Expect.TheVariants.{Value, ValueOrEnd, Name, NameOrEnd, Colon, CommaOrEnd, End}
 use Rattle.qm_frame.specs.declared.step.TheConstants.{MAX_DEPTH}
 use Rattle.qm_json.specs.Members.{has_name}
-use Rattle.qm_read.specs.Steps.{State, begun, put, left, step}
+use Rattle.qm_read.specs.Stacks.{State, begun, put, left}
+use Rattle.qm_read.specs.Steps.{step}
 use Rattle.qm_read.specs.Faults.{whole, run, on, ended, reading}
 use Rattle.qm_read.proofs.Fresh.{fresh, fresh_name}
 use Rattle.qm_read.specs.Viable.{BeginsValue}

@@ -12,7 +12,8 @@ use Rattle.qm_read.specs.declared.stack.Open.{Open}
 use Rattle.qm_read.specs.declared.stack.Open.TheVariants.{Top, Arr, Obj, Whole}
 use Rattle.qm_read.specs.declared.token.Token.{Token}
 use Rattle.qm_read.specs.declared.token.Token.TheVariants as tokens
-use Rattle.qm_read.specs.Steps.{State, step, takes_value, takes_name, put, value_step, name_step, ends_array, ends_object, close_array, close_object, comma_step, colon_step}
+use Rattle.qm_read.specs.Stacks.{State, takes_value, takes_name, put, ends_array, ends_object}
+use Rattle.qm_read.specs.Steps.{step, value_step, name_step, close_array, close_object, comma_step, colon_step}
 use Rattle.qm_read.specs.Faults.{whole}
 use Rattle.qm_read.proofs.Fresh.{fresh, fresh_name}
 

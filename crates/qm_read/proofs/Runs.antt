@@ -2,7 +2,7 @@
 use Rattle.std.proofs.Common.{◌≡◌, List, [], ◌∷◌, ◌++◌, Result, Ok, Err, refl}
 use Rattle.qm_read.specs.declared.fault.JsonFault.{JsonFault}
 use Rattle.qm_read.specs.declared.token.Placed.{Placed}
-use Rattle.qm_read.specs.Steps.{State}
+use Rattle.qm_read.specs.Stacks.{State}
 use Rattle.qm_read.specs.Faults.{run, on}
 
 on_run : (r : Result State JsonFault) (ts us : List Placed) → ((s : State) → run s (ts ++ us) ≡ on (run s ts) (λ next. run next us)) → on r (λ s. run s (ts ++ us)) ≡ on (on r (λ s. run s ts)) (λ next. run next us)

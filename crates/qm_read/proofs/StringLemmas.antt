@@ -11,7 +11,8 @@ use Rattle.qm_read.specs.declared.fault.JsonFault.{JsonFault}
 use Rattle.qm_read.specs.declared.fault.JsonFault.TheVariants.{BadEscape}
 use Rattle.qm_read.specs.declared.strings.Part.{Part}
 use Rattle.qm_read.specs.declared.strings.Part.TheVariants.{Same, Char}
-use Rattle.qm_read.specs.Strings.{hex_of, unicode_of, pair_of, unicode_escape, escaped_byte, short_escape, escape, character, part, text_in, more_in, followed_by, after_part, text_after}
+use Rattle.qm_read.specs.Escapes.{hex_of, unicode_of, pair_of, unicode_escape, escaped_byte, short_escape, escape}
+use Rattle.qm_read.specs.Strings.{character, part, text_in, more_in, followed_by, after_part, text_after}
 
 -- a byte below 128 is a character
 ascii : (x : ℕ) → x < 128 → is_utf8 (x ∷ []) ≡ true

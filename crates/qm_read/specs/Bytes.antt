@@ -6,10 +6,13 @@ pub record Byte : Type 0 where
   pub code : ℕ
   pub place : ℕ
 
+abbrev pub byte_at : ℕ → ℕ → Byte
+byte_at code place = record { code = code; place = place }
+
 -- bytes of which the first stands at a place
 abbrev pub numbered : ℕ → List ℕ → List Byte
 numbered place [] = []
-numbered place (x ∷ rest) = record { code = x; place = place } ∷ numbered (place + 1) rest
+numbered place (x ∷ rest) = byte_at x place ∷ numbered (place + 1) rest
 
 abbrev pub codes_of : List Byte → List ℕ
 codes_of bytes = map (λ b. b.code) bytes

@@ -7,7 +7,8 @@ use Rattle.qm_read.specs.declared.fault.JsonFault.TheVariants.{Expected}
 use Rattle.qm_read.specs.declared.stack.Open.{Open}
 use Rattle.qm_read.specs.declared.stack.Open.TheVariants.{Whole}
 use Rattle.qm_read.specs.declared.token.Placed.{Placed}
-use Rattle.qm_read.specs.Steps.{State, begun, step}
+use Rattle.qm_read.specs.Stacks.{State, begun}
+use Rattle.qm_read.specs.Steps.{step}
 use Rattle.qm_read.specs.Tokens.{tokens_of}
 
 abbrev pub on : Result State JsonFault → (State → Result State JsonFault) → Result State JsonFault

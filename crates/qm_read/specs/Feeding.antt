@@ -8,10 +8,10 @@ use Rattle.qm_read.specs.declared.token.Last.{Last}
 use Rattle.qm_read.specs.declared.token.Last.TheVariants.{Whole, Number, Word, Str}
 use Rattle.qm_read.specs.declared.token.Placed.{Placed}
 use Rattle.qm_frame.specs.Bytes.{is_space, begins_number, in_number, is_letter, is_quote}
-use Rattle.qm_read.specs.Bytes.{Byte}
+use Rattle.qm_read.specs.Bytes.{Byte, byte_at}
 use Rattle.qm_read.specs.Strings.{takes_next, ends_string}
 use Rattle.qm_read.specs.Tokens.{at, number_token, word_token, mark_token, ended_string, closing}
-use Rattle.qm_read.specs.Steps.{State}
+use Rattle.qm_read.specs.Stacks.{State}
 use Rattle.qm_read.specs.Faults.{on, run, ended}
 
 -- a byte at which no piece goes on
@@ -44,7 +44,7 @@ abbrev pub stopped : Last → Byte → Found Placed Last
 stopped Whole x = begins x
 stopped (Number place text) x = after_token (at (number_token place text) place) (begins x)
 stopped (Word place text) x = after_token (at (word_token place text) place) (begins x)
-stopped (Str place quote taken raw) x = record { answers = ended_string (record { code = quote; place = place }) raw x ∷ []; rest = Whole }
+stopped (Str place quote taken raw) x = record { answers = ended_string (byte_at quote place) raw x ∷ []; rest = Whole }
 
 abbrev pub moved : Last → Byte → Found Placed Last
 moved last x = cond (continues last x.code) (record { answers = []; rest = grown last x.code }) (stopped last x)

@@ -1,8 +1,10 @@
 pub mod Bytes
+pub mod Escapes
 pub mod Faults
 pub mod Feeding
 pub mod Inputs
 pub mod Spelling
+pub mod Stacks
 pub mod Steps
 pub mod Strings
 pub mod Texts

@@ -1,6 +1,6 @@
--- Reading a value token by token: what is open, and what may stand next. This is how a value or a
--- fault is computed; which one it is, Spelling and Viable say without it (this project's own rule).
-use Rattle.std.specs.Prelude.{ℕ, ◌+◌, nat_lt, Bool, true, false, cond, ◌&&◌, List, [], ◌∷◌, ◌++◌, length, Result, Ok, Err}
+-- Reading a value token by token. This is how a value or a fault is computed; which one it is,
+-- Spelling and Viable say without it (this project's own rule).
+use Rattle.std.specs.Prelude.{ℕ, ◌+◌, nat_lt, cond, ◌&&◌, List, [], ◌∷◌, length, Result, Ok, Err}
 use Rattle.qm_json.specs.declared.value.Json.{Json}
 use Rattle.qm_json.specs.declared.value.Json.TheVariants as json
 use Rattle.qm_json.specs.Members.{has_name}
@@ -8,46 +8,12 @@ use Rattle.qm_frame.specs.declared.step.TheConstants.{MAX_DEPTH}
 use Rattle.qm_read.specs.declared.fault.JsonFault.{JsonFault}
 use Rattle.qm_read.specs.declared.fault.JsonFault.TheVariants.{Expected, Duplicate}
 use Rattle.qm_read.specs.declared.stack.Expect.{Expect}
-use Rattle.qm_read.specs.declared.stack.Expect.TheVariants.{Value, ValueOrEnd, Name, NameOrEnd, Colon, CommaOrEnd, End}
+use Rattle.qm_read.specs.declared.stack.Expect.TheVariants.{Value, ValueOrEnd, NameOrEnd, Colon, CommaOrEnd}
 use Rattle.qm_read.specs.declared.stack.Open.{Open}
-use Rattle.qm_read.specs.declared.stack.Open.TheVariants.{Top, Arr, Obj, Whole}
+use Rattle.qm_read.specs.declared.stack.Open.TheVariants.{Arr, Obj}
 use Rattle.qm_read.specs.declared.token.Token.{Token}
 use Rattle.qm_read.specs.declared.token.Token.TheVariants as tokens
-
--- what was read: what is open, the innermost first, and what may stand next
-pub record State : Type 0 where
-  pub stack : List Open
-  pub expect : Expect
-
-abbrev pub begun : State
-begun = record { stack = Top ∷ []; expect = Value }
-
-abbrev pub takes_value : Expect → Bool
-takes_value Value = true
-takes_value ValueOrEnd = true
-takes_value _ = false
-
-abbrev pub takes_name : Expect → Bool
-takes_name Name = true
-takes_name NameOrEnd = true
-takes_name _ = false
-
--- what a value makes of what it stands in
-abbrev pub given : Open → Json → Open
-given (Arr items) v = Arr (items ++ v ∷ [])
-given (Obj members name) v = Obj (members ++ record { name = name; value = v } ∷ []) []
-given Top v = Whole v
-given (Whole w) v = Whole v
-
-abbrev pub after_value : Open → Expect
-after_value (Arr items) = CommaOrEnd
-after_value (Obj members name) = CommaOrEnd
-after_value Top = End
-after_value (Whole w) = End
-
-abbrev pub put : Json → List Open → State
-put v [] = record { stack = []; expect = End }
-put v (top ∷ outer) = record { stack = given top v ∷ outer; expect = after_value top }
+use Rattle.qm_read.specs.Stacks.{State, takes_value, takes_name, ends_array, ends_object, put, left, after_comma}
 
 abbrev pub value_step : State → Json → ℕ → Result State JsonFault
 value_step s v place = cond (takes_value s.expect) (Ok (put v s.stack)) (Err (Expected place))
@@ -63,21 +29,6 @@ name_step (Obj members old ∷ outer) name place =
     cond (has_name members name) (Err (Duplicate place)) (Ok record { stack = Obj members name ∷ outer; expect = Colon })
 name_step _ name place = Err (Expected place)
 
--- a value that ended what was innermost goes into what is around it
-abbrev pub left : List Open → Json → ℕ → Result State JsonFault
-left (top ∷ next ∷ outer) v place = Ok (put v (next ∷ outer))
-left _ v place = Err (Expected place)
-
-abbrev pub ends_array : Expect → Bool
-ends_array ValueOrEnd = true
-ends_array CommaOrEnd = true
-ends_array _ = false
-
-abbrev pub ends_object : Expect → Bool
-ends_object NameOrEnd = true
-ends_object CommaOrEnd = true
-ends_object _ = false
-
 abbrev pub close_array : List Open → ℕ → Result State JsonFault
 close_array (Arr items ∷ outer) place = left (Arr items ∷ outer) (json.Arr items) place
 close_array _ place = Err (Expected place)
@@ -85,10 +36,6 @@ close_array _ place = Err (Expected place)
 abbrev pub close_object : List Open → ℕ → Result State JsonFault
 close_object (Obj members name ∷ outer) place = left (Obj members name ∷ outer) (json.Obj members) place
 close_object _ place = Err (Expected place)
-
-abbrev pub after_comma : List Open → Expect
-after_comma (Obj members name ∷ outer) = Name
-after_comma _ = Value
 
 abbrev pub comma_step : Expect → List Open → ℕ → Result State JsonFault
 comma_step CommaOrEnd stack place = Ok record { stack = stack; expect = after_comma stack }

@@ -1,6 +1,7 @@
 ghost use Rattle.std.specs.Prelude.{◌≡◌, ◌≢◌, [], ◌∷◌, IfOk, IfErr, Ok, Err};
+ghost use Rattle.qm_read.specs.Bytes.{byte_at};
 ghost use Rattle.qm_read.specs.Feeding.{fed, Finds, begins, moved, stopped, LiesBefore};
-ghost use Rattle.qm_read.specs.Steps.{begun};
+ghost use Rattle.qm_read.specs.Stacks.{begun};
 
 use crate::JsonFault;
 use crate::lexer::{
@@ -63,7 +64,7 @@ impl Intake {
 
     /// Takes a byte at which no piece goes on.
     fn begin(&mut self, byte: u8, place: u64) -> Result<(), JsonFault>
-        ensures { Finds self.old.state (begins record { code = byte; place = place }) result self.new }
+        ensures { Finds self.old.state (begins (byte_at byte place)) result self.new }
     {
         if is_space(byte) {
             self.last = Last::Whole;
@@ -86,7 +87,7 @@ impl Intake {
     /// Ends the piece before the byte, or with it.
     fn stop(&mut self, byte: u8, place: u64) -> Result<(), JsonFault>
         requires { LiesBefore self.old.last place }
-        ensures { Finds self.old.state (stopped self.old.last record { code = byte; place = place }) result self.new }
+        ensures { Finds self.old.state (stopped self.old.last (byte_at byte place)) result self.new }
     {
         match mem::replace(&mut self.last, Last::Whole) {
             Last::Whole => self.begin(byte, place),
@@ -111,7 +112,7 @@ impl Intake {
     /// Takes the next byte, which stands at this place.
     pub fn push(&mut self, byte: u8, place: u64) -> Result<(), JsonFault>
         requires { LiesBefore self.old.last place }
-        ensures { Finds self.old.state (moved self.old.last record { code = byte; place = place }) result self.new }
+        ensures { Finds self.old.state (moved self.old.last (byte_at byte place)) result self.new }
     {
         if continues(&self.last, byte) {
             match lengthen(&mut self.last, byte) {
@@ -126,7 +127,8 @@ impl Intake {
     /// The value, if the bytes so far are those of one.
     pub fn finish(self, length: u64) -> Result<Json, JsonFault>
         requires { LiesBefore self.last length }
-        ensures { result ≢ Err JsonFault.Memory → result ≡ fed self.last (Ok self.state) [] length }
+        ensures { result ≢ Err JsonFault.Memory →
+            result ≡ fed self.last (Ok self.state) [] length }
     {
         let Intake {
             alloc,

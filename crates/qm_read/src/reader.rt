@@ -1,7 +1,8 @@
 ghost use Rattle.std.specs.Prelude.{◌≡◌, List, OnOk, ◌∷◌, IfOk};
 ghost use Rattle.qm_read.specs.Faults.{whole};
 ghost use Rattle.qm_read.specs.Feeding.{Steps};
-ghost use Rattle.qm_read.specs.Steps.{begun, step, takes_value as of_value, takes_name as of_name, given, after_value as next_after, ends_array as array_end, ends_object as object_end, value_step, open_step, name_step, after_comma as comma_then, left};
+ghost use Rattle.qm_read.specs.Stacks.{begun, takes_value as of_value, takes_name as of_name, given, after_value as next_after, ends_array as array_end, ends_object as object_end, after_comma as comma_then, left};
+ghost use Rattle.qm_read.specs.Steps.{step, value_step, open_step, name_step};
 
 use crate::JsonFault;
 use crate::stack::{Expect, Open};
@@ -25,7 +26,7 @@ pub struct Reader {
 
 impl Model for Reader {
     ghost use Rattle.std.specs.Prelude.{reverse, ◌∷◌};
-    ghost use Rattle.qm_read.specs.Steps.{State};
+    ghost use Rattle.qm_read.specs.Stacks.{State};
     ghost use Rattle.qm_json.specs.contracts.value.Json as j;
     ghost use Rattle.qm_json.specs.contracts.value.Member as m;
     ghost use Rattle.std.specs.Coded.{codes};
@@ -117,6 +118,7 @@ fn ends_object(expect: Expect) -> bool
 }
 
 impl Reader {
+    /// No token was read. It takes no memory.
     pub fn new(alloc: Global) -> Reader
         ensures { result ≡ begun }
     {

@@ -14,7 +14,7 @@ use std::alloc::Global;
 pub fn read(alloc: Global, text: &[u8]) -> Result<Json, JsonFault>
     ensures value { result ≢ Err JsonFault.Memory → result ≡ reading_of text.now }
     ensures spelled { IfOk result (Spells text.now) }
-    ensures fault { IfErr result (λ fault. fault ≢ JsonFault.Memory → HasFault text.now fault) }
+    ensures fault { IfErr result (λ f. f ≢ JsonFault.Memory → HasFault text.now f) }
     ensures clean { IfOk result IsClean }
 {
     let mut intake = Intake::new(alloc);
@@ -29,13 +29,15 @@ pub fn read(alloc: Global, text: &[u8]) -> Result<Json, JsonFault>
 
 /// A text is read as a value exactly where it spells it.
 pub fn each_value_is_spelled()
-    ensures { (text : List ℕ) (value : Json) → (reading_of text ≡ Ok value) ↔ Spells text value }
+    ensures { (text : List ℕ) (value : Json) →
+        (reading_of text ≡ Ok value) ↔ Spells text value }
 {}
 
 /// A text is refused with a fault exactly where that is its first fault: what stands before it
 /// begins a value, and with it nothing does.
 pub fn each_fault_is_the_first()
-    ensures { (text : List ℕ) (fault : JsonFault) → (reading_of text ≡ Err fault) ↔ HasFault text fault }
+    ensures { (text : List ℕ) (fault : JsonFault) →
+        (reading_of text ≡ Err fault) ↔ HasFault text fault }
 {}
 
 /// What a text is read as is clean.

@@ -2,7 +2,8 @@ ghost use Rattle.std.specs.Prelude.{◌≡◌, ◌≢◌, ◌+◌, ◌<◌, ◌�
 ghost use Rattle.std.specs.Char.{digit_value as value_of_digit, InScalarRange};
 ghost use Rattle.std.specs.Char.Utf16.{is_high_surrogate as is_high, is_low_surrogate as is_low};
 ghost use Rattle.std.specs.Str.{continuation_len as continuation, is_utf8 as utf8};
-ghost use Rattle.qm_read.specs.Strings.{is_hex as of_hex, hex_of as hex, unicode_of as unicode, pair_of as pair, unicode_escape as unicode_part, escaped_byte as byte_of, escape as escape_part, character as character_part, part as part_of, text_in, more_in, text_of as text};
+ghost use Rattle.qm_read.specs.Escapes.{is_hex as of_hex, hex_of as hex, unicode_of as unicode, pair_of as pair, unicode_escape as unicode_part, escaped_byte as byte_of, escape as escape_part};
+ghost use Rattle.qm_read.specs.Strings.{character as character_part, part as part_of, text_in, more_in, text_of as text};
 
 use crate::JsonFault;
 use qm_base::{NoMemory, Text};

@@ -2,7 +2,7 @@ use Rattle.std.proofs.Common.{◌≡◌, length, drop, Ok}
 use Rattle.qm_read.specs.declared.token.Last.TheVariants.{Whole}
 use Rattle.qm_read.specs.Bytes.{numbered}
 use Rattle.qm_read.specs.Feeding.{fed, LiesBefore}
-use Rattle.qm_read.specs.Steps.{begun}
+use Rattle.qm_read.specs.Stacks.{begun}
 use Rattle.qm_read.proofs.reading.read.Given as goal
 
 -- what is left, from what was read, is the whole from the beginning

@@ -1,5 +1,5 @@
 use Rattle.std.proofs.Common.{ap, ◌∙◌}
-use Rattle.qm_read.specs.Strings.{escape}
+use Rattle.qm_read.specs.Escapes.{escape}
 use Rattle.qm_read.proofs.StringLemmas.{escape-fits}
 use Rattle.qm_read.proofs.strings.first_part.Goals as goal
 
