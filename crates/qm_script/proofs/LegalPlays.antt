@@ -1,7 +1,6 @@
 -- The journal that a script plays is legal.
-use Rattle.std.proofs.Common.{◌≡◌, ℕ, ◌+◌, ◌==◌, ◌++◌, nat_lt, Bool, true, false, cond, List, [], ◌∷◌, length, Option, Some, None, Result, Ok, Err, IfOk, refl, sym}
+use Rattle.std.proofs.Common.{◌≡◌, ℕ, ◌+◌, ◌==◌, ◌++◌, nat_lt, Bool, true, false, cond, List, [], ◌∷◌, length, Option, Some, None, Result, Ok, Err, IfOk, refl}
 use Rattle.std.specs.List.{slice_get}
-use Rattle.qm_core.specs.Inputs.{IsCleanInput}
 use Rattle.qm_core.specs.Legal.{IsLegal, past_of}
 use Rattle.qm_core.specs.Next.{Shown, refusal_of, entry_of, session_refusal, IsCleanStep}
 use Rattle.qm_core.specs.Next as step
@@ -12,9 +11,8 @@ use Rattle.qm_core.specs.declared.inputs.Input.{Input}
 use Rattle.qm_core.specs.declared.requests.Started.{Started}
 use Rattle.qm_core.proofs.StepLaws.{next_legal}
 use Rattle.qm_script.specs.Fed.{fed_inputs_of}
-use Rattle.qm_script.specs.Lines.{lines_of}
 use Rattle.qm_script.specs.Orders.{order_of, fed_by}
-use Rattle.qm_script.specs.Playing.{Played, Ended, stepped, core_step, open_step, fed_step, fed_to, input_step, admit_step, finish_step, ordered, line_step, after_line, played_from, played_of}
+use Rattle.qm_script.specs.Playing.{Played, Ended, stepped, core_step, fed_step, fed_to, input_step, admit_step, finish_step, ordered, line_step, after_line, played_from}
 use Rattle.qm_script.specs.declared.TheConstants.{MOST_LINES}
 use Rattle.qm_script.specs.declared.endings.Stop.{Stop}
 use Rattle.qm_script.specs.declared.endings.Stop.TheVariants.{BadLine}

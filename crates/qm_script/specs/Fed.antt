@@ -1,5 +1,5 @@
 -- The inputs of the bytes that were fed to a session (this project's own rule).
-use Rattle.std.specs.Prelude.{ℕ, List, map, Result, Ok, Err}
+use Rattle.std.specs.Prelude.{ℕ, List, map}
 use Rattle.qm_core.specs.declared.inputs.FrameWord.{FrameWord}
 use Rattle.qm_core.specs.declared.inputs.FrameWord.TheVariants as word
 use Rattle.qm_core.specs.declared.inputs.BadInput.TheVariants as bad

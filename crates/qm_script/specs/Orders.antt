@@ -1,5 +1,5 @@
 -- What a line of a script orders (this project's own rule).
-use Rattle.std.specs.Prelude.{ℕ, ◌+◌, ◌^◌, ◌-◌, position, [], ◌==◌, nat_lt, nat_eq, Bool, true, false, cond, ◌&&◌, ◌||◌, List, length, take, drop, codes, Option, Some, None, option_map}
+use Rattle.std.specs.Prelude.{ℕ, ◌+◌, ◌^◌, ◌-◌, position, [], ◌==◌, nat_lt, nat_eq, Bool, false, cond, ◌&&◌, ◌||◌, List, length, take, drop, codes, Option, Some, None, option_map}
 use Rattle.std.specs.List.{starts_with, ends_with}
 use Rattle.std.specs.Option.{option_and_then, option_or}
 use Rattle.std.specs.Str.{bytes_eq}

@@ -1,13 +1,13 @@
 -- The answer of a run from that of its part.
-use Rattle.std.proofs.Common.{◌≡◌, ◌≢◌, ℕ, List, [], ◌++◌, Option, Some, None, refl, ap, sym, ◌∙◌, append-nil, inl, inr}
+use Rattle.std.proofs.Common.{◌≡◌, ◌≢◌, ℕ, List, [], Option, Some, None, refl, ap, sym, ◌∙◌, append-nil, inl, inr}
 use Rattle.std.specs.Option.{option_and_then}
 use Rattle.qm_base.specs.Faults.{Rose, told_more, HoldsPart}
 use Rattle.qm_base.proofs.Prefixes.{empty_prefix}
-use Rattle.qapi_load.specs.Files.{NamedText, text_of}
+use Rattle.qapi_load.specs.Files.{NamedText}
 use Rattle.qm_script.specs.declared.endings.PlayEnd.{PlayEnd}
 use Rattle.qm_script.specs.declared.endings.PlayEnd.TheVariants as end
 use Rattle.qmpd.specs.Answers.{Ran, Ends, Answers}
-use Rattle.qmpd.specs.Output.{run_with, answer_of, replay_of, end_status_of, cannot_read}
+use Rattle.qmpd.specs.Output.{run_with, answer_of, end_status_of, cannot_read}
 
 told_more-nothing : (told : Option (List ℕ)) → told ≡ told_more told []
 told_more-nothing None = refl

@@ -1,4 +1,4 @@
-use Rattle.std.proofs.Common.{length, Ok}
+use Rattle.std.proofs.Common.{length}
 use Rattle.qm_core.specs.Texts.{text_of}
 use Rattle.qm_script.specs.Endings.{closing_of}
 use Rattle.qm_script.proofs.PutLemmas.{puts_after}

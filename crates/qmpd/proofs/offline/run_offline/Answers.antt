@@ -1,4 +1,4 @@
-use Rattle.std.proofs.Common.{rules, ◌≡◌, refl, ap, sym, ◌∙◌, Some, Err, map, string_bytes}
+use Rattle.std.proofs.Common.{rules, ◌≡◌, refl, Some, map, string_bytes}
 use Rattle.qmpd.specs.Words.{script_of}
 use Rattle.qmpd.proofs.Runs.{unread, wanted_memory}
 use Rattle.qmpd.proofs.offline.run_offline.Goals as goal
