@@ -22,26 +22,24 @@ fn expect(rt: &impl Abort, lines: &LineList, texts: &[&str]) {
     }
 }
 
+fn answered(rt: &impl AllocGlobal, monitor: &mut Monitor, session: u32) -> Result<(), Fail> {
+    let bad = BadInput::Json(JsonWord::Expected(12));
+    let mut offer = Offer::of(rt.alloc(), Input::Bad(bad))?;
+    monitor.admit(session, &mut offer)?;
+    let started = monitor.start()?;
+    monitor.finish(rt.alloc(), started.session, started.number, 5)?;
+    Ok(())
+}
+
 #[test]
 fn a_session_from_opening_to_end(rt: HostRuntime) -> Result<(), Fail> {
-    let alloc = rt.alloc();
-    let mut monitor = Monitor::new(alloc, Limits { entries: 8 })?;
-    assert!(rt; !monitor.has_opened());
-    assert_eq!(rt; monitor.open(alloc)?, 1);
-    let bad = BadInput::Json(JsonWord::Expected(12));
-    let mut offer = Offer::of(alloc, Input::Bad(bad))?;
-    assert_eq!(rt; monitor.admit(1, &mut offer)?.number, 1);
-    assert!(rt; offer.is_spent());
-    assert_eq!(rt; monitor.start()?.number, 1);
-    assert!(rt; monitor.running().is_some());
-    monitor.finish(alloc, 1, 1, 5)?;
-    expect(&rt, &monitor.take(1)?, &[GREETING, REPLY]);
-    monitor.end(1)?;
-    monitor.drop_session(1, Cause::Ended)?;
-    assert!(rt; monitor.is_known(1));
-    assert!(rt; monitor.is_closed(1));
-    assert_eq!(rt; monitor.admitted(1), 1);
-    assert_eq!(rt; monitor.limits().entries, 8);
+    let mut monitor = Monitor::new(rt.alloc(), Limits { entries: 8 })?;
+    let session = monitor.open(rt.alloc())?;
+    answered(&rt, &mut monitor, session)?;
+    let lines = monitor.take(session)?;
+    expect(&rt, &lines, &[GREETING, REPLY]);
+    monitor.end(session)?;
+    monitor.drop_session(session, Cause::Ended)?;
     assert_eq!(rt; monitor.journal().len(), 7);
     Ok(())
 }
