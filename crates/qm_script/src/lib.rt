@@ -1,14 +1,14 @@
 //! Replay of a script of steps. This project's own rule.
 #![tactic(auto)]
 
-pub mod closings;
+mod closings;
 pub mod endings;
-pub mod feeder;
+mod feeder;
 pub mod laws;
-pub mod lines;
+mod lines;
 pub mod orders;
-pub mod player;
-pub mod replays;
+mod player;
+mod replays;
 
 pub use endings::{PlayEnd, Refused, StepWord, Stop};
 pub use orders::Order;
