@@ -2,9 +2,8 @@
 #![tactic(auto)]
 
 mod texts;
-pub mod writing;
+mod writing;
 
-pub use texts::entry_text;
 pub use writing::{HistoryFault, write_history};
 
 #[cfg(test)]

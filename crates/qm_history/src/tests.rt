@@ -130,14 +130,13 @@ fn a_journal_is_written(rt: HostRuntime) -> Result<(), Fail> {
 }
 
 #[test]
-fn a_sink_fails_at_the_third_entry(rt: HostRuntime) -> Result<(), Fail> {
+fn a_sink_that_fails(rt: HostRuntime) -> Result<(), Fail> {
     let mut failing = CallList::new(rt.alloc());
-    failing.push(3)?;
+    failing.push(1)?;
     let mut sink = MemorySink::new(rt.alloc(), failing);
     let journal = journal(rt.alloc())?;
     let written = write_history(rt.alloc(), &journal, &mut sink);
     assert!(rt; written == Err(HistoryFault::SinkFault));
-    let part = "1 open 1\n2 admit 1 1 in {\"execute\": \"qmp_capabilities\"}\n";
-    assert_eq!(rt; sink.taken(), part.as_bytes());
+    assert_eq!(rt; sink.taken(), b"".as_slice());
     Ok(())
 }

@@ -1,4 +1,4 @@
-ghost use Rattle.std.specs.Prelude.{◌≡◌, ◌++◌, codes, flat_map, length, IfOk, OnOk};
+ghost use Rattle.std.specs.Prelude.{◌≡◌, ◌++◌, codes, flat_map, length, OnOk};
 ghost use Rattle.std.specs.Fmt.{decimal};
 ghost use Rattle.qm_json.specs.Printing.{printed};
 ghost use Rattle.qm_core.specs.Texts.{bad_word_of, cause_word_of, entry_text_of, event_text_of, frame_word_of, input_text_of, json_word_of, lane_word_of, request_text_of, taken_text_of};
@@ -8,7 +8,6 @@ use qm_base::{NoMemory, Shared, Text};
 use qm_caps::Lane;
 use qm_core::{BadInput, Cause, Entry, FrameWord, Input, JsonWord};
 use qm_json::Json;
-use std::alloc::Global;
 
 fn frame_word(word: FrameWord) -> &'static [u8]
     ensures { result.now ≡ frame_word_of word }
@@ -230,12 +229,10 @@ fn put_event(out: &mut Text, entry: &Entry) -> Result<(), NoMemory>
     }
 }
 
-/// The lines of an entry: its number and what it says, and the lines that it handed out.
-pub fn entry_text(alloc: Global, number: u64, entry: &Entry) -> Result<Text, NoMemory>
-    ensures { IfOk result (λ text. text ≡ entry_text_of number entry.now) }
+/// Appends the lines of an entry: its number and what it says, and the lines that it handed out.
+pub fn put_entry(out: &mut Text, number: u64, entry: &Entry) -> Result<(), NoMemory>
+    ensures { OnOk result (out.new ≡ out.old ++ entry_text_of number entry.now) }
 {
-    let mut text = Text::new(alloc);
-    put_number(&mut text, number)?;
-    put_event(&mut text, entry)?;
-    Ok(text)
+    put_number(out, number)?;
+    put_event(out, entry)
 }

@@ -1,21 +1,24 @@
 use Rattle.std.proofs.Common.{◌≡◌, ◌∙◌, ◌+◌, arith}
-use Rattle.qm_base.proofs.Telling.{part-after, part-so_far, puts-part, told_more-next}
-use Rattle.qm_core.specs.Texts.{entry_text_of}
-use Rattle.qm_history.proofs.Numbering.{text-next, text-so_far, text-through}
+use Rattle.qm_base.proofs.Telling.{puts-part}
+use Rattle.qm_history.proofs.Gathering.{gathers-entry, gathers-part, gathers-put_part, gathers-twice}
+use Rattle.qm_history.proofs.Numbering.{text-so_far}
 use Rattle.qm_history.proofs.writing.write_history.Goals as goal
 
+pub returns-in_err-put_entry-clause-text : goal.returns-in_err-put_entry-clause-text
+returns-in_err-put_entry-clause-text g c =
+    rw (← c.as_slice-entries.ensures) (puts-part _ _ c.from_residual.result _ c.from_residual.ensures.0 (gathers-part _ _ _ _ _ c.loop-i.invariant.so_far (text-so_far c.as_slice-entries.result.now c.loop-i.i (omega arith))))
+
 pub returns-in_err-text-clause-text : goal.returns-in_err-text-clause-text
-returns-in_err-text-clause-text g c = rw (← c.as_slice-entries.ensures) (puts-part _ _ c.from_residual.result _ c.from_residual.ensures.0 (part-so_far _ _ _ _ c.loop-i.invariant.told (text-so_far c.as_slice-entries.result.now c.loop-i.i (omega arith))))
+returns-in_err-text-clause-text g c =
+    let so_far = gathers-entry _ _ _ c.put_entry.new.out c.as_slice-entries.result.now c.loop-i.i c.index-entries-i.result (omega arith) c.index-entries-i.is c.in_ok-put_entry.ensures c.loop-i.invariant.so_far in
+    rw (← c.as_slice-entries.ensures) (puts-part _ _ c.from_residual-in_err-text.result _ c.from_residual-in_err-text.ensures.0 (gathers-put_part _ _ _ _ _ _ so_far (text-so_far c.as_slice-entries.result.now (c.loop-i.i + 1) (omega arith)) c.in_err-text.ensures.part))
+
+pub loop-i-preserved : goal.loop-i-preserved
+loop-i-preserved g c = record {
+  so_far = gathers-twice _ _ _ _ _ _ (gathers-entry _ _ _ c.put_entry.new.out c.as_slice-entries.result.now c.loop-i.i c.index-entries-i.result (omega arith) c.index-entries-i.is c.in_ok-put_entry.ensures c.loop-i.invariant.so_far) c.in_ok-text.ensures.ok;
+  kept = c.in_ok-text.ensures.cause ∙ c.loop-i.invariant.kept;
+}
 
 pub returns-in_err-put-clause-text : goal.returns-in_err-put-clause-text
 returns-in_err-put-clause-text g c =
-    let said : c.as_slice.result.now ≡ entry_text_of (c.loop-i.i + 1) c.index-entries-i.result = c.as_slice.ensures ∙ c.in_ok-text.ensures in
-    rw (← c.as_slice-entries.ensures) (puts-part _ _ c.from_residual-in_err-put.result _ c.from_residual-in_err-put.ensures.0 (part-after _ _ _ _ c.as_slice.result.now _ c.loop-i.invariant.told (text-through c.as_slice-entries.result.now c.loop-i.i c.index-entries-i.result c.as_slice.result.now (omega arith) c.index-entries-i.is said) c.in_err-put.ensures.bytes))
-
-pub loop-i-preserved : goal.loop-i-preserved
-loop-i-preserved g c =
-    let said : c.as_slice.result.now ≡ entry_text_of (c.loop-i.i + 1) c.index-entries-i.result = c.as_slice.ensures ∙ c.in_ok-text.ensures in
-    record {
-      told = told_more-next _ _ _ _ c.as_slice.result.now _ c.loop-i.invariant.told c.in_ok-put.ensures.bytes (text-next c.as_slice-entries.result.now c.loop-i.i c.index-entries-i.result c.as_slice.result.now (omega arith) c.index-entries-i.is said);
-      kept = c.in_ok-put.ensures.cause ∙ c.loop-i.invariant.kept;
-    }
+    rw (← c.as_slice-entries.ensures) (puts-part _ _ c.from_residual-in_err-put.result _ c.from_residual-in_err-put.ensures.0 (gathers-put_part _ _ _ _ _ _ c.loop-i.invariant.so_far (text-so_far c.as_slice-entries.result.now c.loop-i.i (omega arith)) (rw (← c.as_slice.ensures) c.in_err-put.ensures.bytes)))

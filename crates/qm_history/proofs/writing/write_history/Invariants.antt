@@ -1,11 +1,11 @@
 use Rattle.std.proofs.Common.{◌≡◌, take}
-use Rattle.qm_base.specs.Faults.{told_more}
 use Rattle.qm_core.specs.Texts.{text_of}
+use Rattle.qm_history.specs.Gathering.{Gathers}
 use Rattle.qm_history.proofs.writing.write_history.Given as goal
 
--- the text of the entries so far was put, and no call failed
+-- the text of the entries so far was put or is gathered, and no call failed
 abbrev pub invariant-loop-i : goal.invariant-loop-i
 invariant-loop-i g l = record {
-  told : g.S.Sink.contents l.sink ≡ told_more (g.S.Sink.contents l.fn.sink) (text_of (take l.i l.entries));
+  so_far : Gathers (g.S.Sink.contents l.fn.sink) (g.S.Sink.contents l.sink) l.text (text_of (take l.i l.entries));
   kept : g.S.Sink.faults l.sink ≡ g.S.Sink.faults l.fn.sink;
 }
