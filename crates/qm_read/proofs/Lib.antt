@@ -1,14 +1,15 @@
 pub mod Accepts
+pub mod Advancing
 pub mod CleanTexts
 pub mod CleanTokens
 pub mod CleanValues
 pub mod FaultLaws
-pub mod Feeds
 pub mod FirstFaults
 pub mod Fresh
 pub mod Holds
-pub mod Lexing
+pub mod LexemeLaws
 pub mod LiteralLemmas
+pub mod PlainStrings
 pub mod Refusals
 pub mod Results
 pub mod Runs

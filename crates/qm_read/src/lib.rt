@@ -2,11 +2,11 @@
 #![tactic(auto)]
 
 pub mod fault;
-mod intake;
 mod lexer;
 mod literals;
 mod reader;
 mod reading;
+mod spans;
 mod stack;
 mod strings;
 pub mod taken;
