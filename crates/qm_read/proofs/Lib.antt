@@ -9,6 +9,7 @@ pub mod Fresh
 pub mod Holds
 pub mod LexemeLaws
 pub mod LiteralLemmas
+pub mod NameLemmas
 pub mod PlainStrings
 pub mod Refusals
 pub mod Results

@@ -4,6 +4,7 @@ pub mod Faults
 pub mod Feeding
 pub mod Inputs
 pub mod Lexemes
+pub mod Names
 pub mod Spans
 pub mod Spelling
 pub mod Stacks

@@ -4,6 +4,8 @@
 pub mod fault;
 mod lexer;
 mod literals;
+mod named_members;
+mod names;
 mod reader;
 mod reading;
 mod spans;
