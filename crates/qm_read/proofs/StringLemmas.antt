@@ -117,9 +117,9 @@ pub all_parts : (whole : Result (List ℕ) JsonFault) (raw out : List ℕ) (plac
 all_parts whole raw out place i h w =
     ap (λ (l : List ℕ). Ok l) (sym (append-nil out)) ∙ ap (λ (l : List ℕ). followed_by out (text_after 0 place l)) (sym (drop_of_length-le raw h)) ∙ w
 
+pub after_nothing : (r : Result (List ℕ) JsonFault) → followed_by [] r ≡ r
+after_nothing (Ok t) = refl
+after_nothing (Err f) = refl
+
 pub no_parts : (raw : List ℕ) (place : ℕ) → followed_by [] (text_after 0 place raw) ≡ text_after 0 place raw
 no_parts raw place = after_nothing (text_after 0 place raw)
-  where
-    after_nothing : (r : Result (List ℕ) JsonFault) → followed_by [] r ≡ r
-    after_nothing (Ok t) = refl
-    after_nothing (Err f) = refl

@@ -3,6 +3,9 @@ pub mod Escapes
 pub mod Faults
 pub mod Feeding
 pub mod Inputs
+pub mod Lexemes
+pub mod Names
+pub mod Spans
 pub mod Spelling
 pub mod Stacks
 pub mod Steps

@@ -1,26 +1,27 @@
-ghost use Rattle.std.specs.Prelude.{◌≡◌, ◌≢◌, ◌+◌, ◌<◌, ◌≤◌, ◌^◌, ◌∷◌, ◌++◌, [], length, cond, ◌==◌, IfOk, OnOk, OnErr, Err, Option, Some, None};
-ghost use Rattle.qm_read.specs.Feeding.{continues as continues_with, grown, LiesBefore, Closes};
+ghost use Rattle.std.specs.Prelude.{◌≡◌, ◌+◌, ◌<◌, ◌≤◌, ◌^◌, ◌∷◌, [], length, drop, false, IfOk};
+ghost use Rattle.qm_read.specs.Lexemes.{string_length as length_of_string, stop_at as stop_of, string_lexeme as string_of, span_lexeme, lexeme_of};
 ghost use Rattle.qm_read.specs.Strings.{ends_string as string_end, takes_next as next_taken, text_of as text};
-ghost use Rattle.qm_read.specs.Tokens.{number_token as of_number, word_token as of_word, mark_token as of_mark, string_token as of_string, closing};
+ghost use Rattle.qm_read.specs.Tokens.{number_token as of_number, word_token as of_word, mark_token as of_mark, string_token as of_string};
 
 use crate::JsonFault;
 use crate::literals::{is_literal, whole_of};
+use crate::spans::{Span, span_length};
 use crate::strings::text_of;
-use crate::token::{Last, Placed, Token};
+use crate::token::{Lexeme, Token};
 use qm_base::{NoMemory, Text};
-use qm_frame::bytes::{in_number, is_letter};
+use qm_frame::bytes::{begins_number, is_letter, is_quote, is_space};
 use std::alloc::Global;
 
 /// The token of a number's bytes.
-pub fn number_token(text: Text, place: u64) -> Token
-    ensures { result ≡ of_number place text }
+pub fn number_token(alloc: Global, text: &[u8], place: u64) -> Result<Token, NoMemory>
+    ensures { IfOk result (λ token. token ≡ of_number place text.now) }
 {
-    if !is_literal(text.as_slice()) {
-        return Token::Bad(JsonFault::Expected(place));
+    if !is_literal(text) {
+        return Ok(Token::Bad(JsonFault::Expected(place)));
     }
-    match whole_of(text.as_slice()) {
-        Some(number) => Token::Int(number),
-        None => Token::Num(text),
+    match whole_of(text) {
+        Some(number) => Ok(Token::Int(number)),
+        None => Ok(Token::Num(Text::of(alloc, text)?)),
     }
 }
 
@@ -94,51 +95,93 @@ fn takes_next(taken: bool, byte: u8) -> bool
     !taken && byte == b'\\'
 }
 
-/// Whether the byte lengthens the piece.
-pub fn continues(last: &Last, byte: u8) -> bool
-    ensures { result ≡ continues_with last.now byte }
+/// How many bytes of a string stand before the one that ends it.
+fn string_length(quote: u8, text: &[u8]) -> usize
+    ensures value { result ≡ length_of_string quote false text.now }
+    ensures within { result ≤ length text.now }
 {
-    match last {
-        Last::Whole => false,
-        Last::Number(_, _) => in_number(byte),
-        Last::Word(_, _) => is_letter(byte),
-        Last::Str(_, quote, taken, _) => !ends_string(*quote, *taken, byte),
+    let mut taken = false;
+    let mut count = 0;
+    while count < text.len() && !ends_string(quote, taken, text[count]) {
+        taken = takes_next(taken, text[count]);
+        count += 1;
+    }
+    count
+}
+
+/// The place where a string stops, unless a quote closes it.
+fn stop_at(place: u64, quote: u8, rest: &[u8]) -> Option<u64>
+    ensures { result ≡ stop_of place quote rest.now }
+{
+    match rest {
+        [] => Some(place),
+        [byte, ..] => { if *byte == quote { None } else { Some(place) } }
     }
 }
 
-/// Lengthens the piece by the byte.
-pub fn lengthen(last: &mut Last, byte: u8) -> Result<(), NoMemory>
-    ensures { OnOk result (last.new ≡ grown last.old byte) }
+/// The lexeme of any string, by what follows its quote.
+fn any_string(alloc: Global, quote: u8, rest: &[u8], place: u64) -> Result<Lexeme, NoMemory>
+    requires { place + 1 + length rest.now < 2 ^ 64 }
+    ensures { IfOk result (λ l. l ≡ string_of place quote rest.now (length_of_string quote false rest.now)) }
 {
-    match last {
-        Last::Whole => Ok(()),
-        Last::Number(_, text) => text.push(byte),
-        Last::Word(_, text) => text.push(byte),
-        Last::Str(_, _, taken, raw) => {
-            *taken = takes_next(*taken, byte);
-            raw.push(byte)
-        }
-    }
+    let count = string_length(quote, rest);
+    let stop = stop_at(place + 1 + count as u64, quote, &rest[count..]);
+    let token = string_token(alloc, &rest[..count], place, stop)?;
+    let length = (count + 2).min(rest.len() + 1);
+    Ok(Lexeme {
+        token: Some(token),
+        length,
+    })
 }
 
-/// What the end of a text of this length makes of its last piece.
-pub fn last_token(alloc: Global, last: Last, length: u64) -> Result<Option<Placed>, NoMemory>
-    requires { LiesBefore last length }
-    ensures { IfOk result (λ token. Closes (closing last length) token) }
+/// The lexeme of a string. One that stands for its own bytes is copied at once.
+fn string_lexeme(alloc: Global, quote: u8, rest: &[u8], place: u64) -> Result<Lexeme, NoMemory>
+    requires { place + 1 + length rest.now < 2 ^ 64 }
+    ensures { IfOk result (λ l. l ≡ string_of place quote rest.now (length_of_string quote false rest.now)) }
 {
-    match last {
-        Last::Whole => Ok(None),
-        Last::Number(place, text) => {
-            let token = number_token(text, place);
-            Ok(Some(Placed { token, place }))
-        }
-        Last::Word(place, text) => {
-            let token = word_token(text.as_slice(), place);
-            Ok(Some(Placed { token, place }))
-        }
-        Last::Str(place, _quote, _taken, raw) => {
-            let token = string_token(alloc, raw.as_slice(), place, Some(length))?;
-            Ok(Some(Placed { token, place }))
+    let count = span_length(Span::Plain(quote), rest);
+    if count < rest.len() && rest[count] == quote {
+        let text = Text::of(alloc, &rest[..count])?;
+        let token = Some(Token::Str(text));
+        return Ok(Lexeme {
+            token,
+            length: count + 2,
+        });
+    }
+    any_string(alloc, quote, rest, place)
+}
+
+/// The lexeme at the front of a text, whose first byte stands at the place.
+pub fn lexeme(alloc: Global, text: &[u8], place: u64) -> Result<Lexeme, NoMemory>
+    requires { place + length text.now < 2 ^ 64 }
+    ensures { IfOk result (λ l. l ≡ lexeme_of place text.now) }
+{
+    match text {
+        [] => Ok(Lexeme {
+            token: None,
+            length: 0,
+        }),
+        [first, rest @ ..] => {
+            if is_space(*first) {
+                let length = span_length(Span::Space, text);
+                Ok(Lexeme {
+                    token: None,
+                    length,
+                })
+            } else if begins_number(*first) {
+                let length = span_length(Span::Number, text);
+                let token = Some(number_token(alloc, &text[..length], place)?);
+                Ok(Lexeme { token, length })
+            } else if is_letter(*first) {
+                let length = span_length(Span::Word, text);
+                let token = Some(word_token(&text[..length], place));
+                Ok(Lexeme { token, length })
+            } else if is_quote(*first) {
+                string_lexeme(alloc, *first, rest, place)
+            } else {
+                let token = Some(mark_token(*first, place));
+                Ok(Lexeme { token, length: 1 })
+            }
         }
     }
 }

@@ -2,11 +2,13 @@
 #![tactic(auto)]
 
 pub mod fault;
-mod intake;
 mod lexer;
 mod literals;
+mod named_members;
+mod names;
 mod reader;
 mod reading;
+mod spans;
 mod stack;
 mod strings;
 pub mod taken;

@@ -4,15 +4,13 @@ ghost use Rattle.std.specs.Char.{is_ascii_digit};
 ghost use Rattle.std.specs.List.{list_all};
 ghost use Rattle.qm_json.specs.Numbers.{digits_len as length_of_digits, is_digits as digits, is_whole_part as whole_part, after_sign as without_sign, is_exponent as exponent, is_fraction as fraction, after_minus as without_minus, is_unsigned_literal as unsigned_literal, is_literal as literal, is_in_whole_range as in_whole_range, whole_of as whole};
 
+use crate::spans::{Span, span_length};
+
 fn digits_len(text: &[u8]) -> usize
     ensures value { result ≡ length_of_digits text.now }
     ensures within { result ≤ length text.now }
 {
-    let mut count = 0;
-    while count < text.len() && text[count].is_ascii_digit() {
-        count += 1;
-    }
-    count
+    span_length(Span::Digit, text)
 }
 
 fn are_digits(text: &[u8]) -> bool

@@ -5,11 +5,12 @@ ghost use Rattle.qm_read.specs.Stacks.{begun, takes_value as of_value, takes_nam
 ghost use Rattle.qm_read.specs.Steps.{step, value_step, open_step, name_step};
 
 use crate::JsonFault;
+use crate::named_members::NamedMembers;
 use crate::stack::{Expect, Open};
 use crate::token::Token;
 use qm_base::{NoMemory, Text};
 use qm_frame::MAX_DEPTH;
-use qm_json::{Json, Member, has_member};
+use qm_json::Json;
 use sqlite_items::Items;
 use std::alloc::Global;
 use std::marker::Model;
@@ -78,10 +79,7 @@ fn give(alloc: Global, top: &mut Open, value: Json) -> Result<(), NoMemory>
         },
         Open::Obj(members, name) => {
             let name = mem::replace(name, Text::new(alloc));
-            match members.push(Member { name, value }) {
-                Ok(()) => Ok(()),
-                Err(_) => Err(NoMemory),
-            }
+            members.push(alloc, name, value)
         }
         Open::Top | Open::Whole(_) => {
             *top = Open::Whole(value);
@@ -179,7 +177,7 @@ impl Reader {
     {
         match &mut self.current {
             Open::Obj(members, name) => {
-                if has_member(members.as_slice(), text.as_slice()) {
+                if members.has(text.as_slice()) {
                     return Err(JsonFault::Duplicate(place));
                 }
                 *name = text;
@@ -209,7 +207,7 @@ impl Reader {
             return Err(JsonFault::Expected(place));
         }
         match mem::replace(&mut self.current, Open::Top) {
-            Open::Obj(members, _) => self.leave(Json::Obj(members), place),
+            Open::Obj(members, _) => self.leave(Json::Obj(members.into_items()), place),
             Open::Top | Open::Arr(_) | Open::Whole(_) => Err(JsonFault::Expected(place)),
         }
     }
@@ -270,7 +268,7 @@ impl Reader {
                 place,
             ),
             Token::OpenObject => self.open(
-                Open::Obj(Items::new(self.alloc), Text::new(self.alloc)),
+                Open::Obj(NamedMembers::new(self.alloc), Text::new(self.alloc)),
                 Expect::NameOrEnd,
                 place,
             ),

@@ -1,12 +1,36 @@
-ghost use Rattle.std.specs.Prelude.{ℕ, List, ◌↔◌, ◌≡◌, ◌≢◌, IfOk, IfErr, Ok, Err};
+ghost use Rattle.std.specs.Prelude.{ℕ, List, length, ◌+◌, ◌<◌, ◌^◌, ◌↔◌, ◌≡◌, ◌≢◌, IfOk, IfErr, Ok, Err};
 ghost use Rattle.qm_json.specs.Cleanness.{IsClean};
 ghost use Rattle.qm_read.specs.Faults.{reading_of};
+ghost use Rattle.qm_read.specs.Lexemes.{Advances};
 ghost use Rattle.qm_read.specs.Texts.{HasFault, Spells};
 
 use crate::JsonFault;
-use crate::intake::Intake;
+use crate::lexer::lexeme;
+use crate::reader::Reader;
+use crate::strings::past;
+use crate::token::Lexeme;
+use qm_base::NoMemory;
 use qm_json::Json;
 use std::alloc::Global;
+
+/// Takes the lexeme at the front of these bytes, and answers its length.
+fn advance(alloc: Global, reader: &mut Reader, text: &[u8], place: u64) -> Result<usize, JsonFault>
+    requires some { 0 < length text.now }
+    requires within { place + length text.now < 2 ^ 64 }
+    ensures { Advances reader.old place text.now result reader.new }
+{
+    let Lexeme { token, length } = match lexeme(alloc, text, place) {
+        Ok(lexeme) => lexeme,
+        Err(NoMemory) => return Err(JsonFault::Memory),
+    };
+    match token {
+        Some(token) => match reader.push(token, place) {
+            Ok(()) => Ok(length),
+            Err(fault) => Err(fault),
+        },
+        None => Ok(length),
+    }
+}
 
 /// The value that a text spells, with white space round it (RFC 8259, section 2), or the first
 /// fault of the text: each token is looked at from the left, first by itself, then whether it may
@@ -17,14 +41,16 @@ pub fn read(alloc: Global, text: &[u8]) -> Result<Json, JsonFault>
     ensures fault { IfErr result (λ f. f ≢ JsonFault.Memory → HasFault text.now f) }
     ensures clean { IfOk result IsClean }
 {
-    let mut intake = Intake::new(alloc);
-    for (i, byte) in text.iter().enumerate() {
-        match intake.push(*byte, i as u64) {
-            Ok(()) => {}
+    let mut reader = Reader::new(alloc);
+    let mut place = 0;
+    while place < text.len() {
+        let rest = past(text, place);
+        match advance(alloc, &mut reader, rest, place as u64) {
+            Ok(length) => place += length,
             Err(fault) => return Err(fault),
         }
     }
-    intake.finish(text.len() as u64)
+    reader.finish(text.len() as u64)
 }
 
 /// A text is read as a value exactly where it spells it.

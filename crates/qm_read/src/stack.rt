@@ -1,5 +1,6 @@
+use crate::named_members::NamedMembers;
 use qm_base::Text;
-use qm_json::{Json, Member};
+use qm_json::Json;
 use sqlite_items::Items;
 
 /// What is open: nothing yet, an array by its items, an object by its members and the name whose
@@ -8,7 +9,7 @@ use sqlite_items::Items;
 pub enum Open {
     Top,
     Arr(Items<Json>),
-    Obj(Items<Member>, Text),
+    Obj(NamedMembers, Text),
     Whole(Json),
 }
 

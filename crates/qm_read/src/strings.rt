@@ -164,7 +164,7 @@ fn escaped_byte(byte: u8) -> Option<u8>
 }
 
 /// What stands after so many bytes.
-fn past(text: &[u8], count: usize) -> &[u8]
+pub fn past(text: &[u8], count: usize) -> &[u8]
     ensures { result.now ≡ drop count text.now }
 {
     if count < text.len() {

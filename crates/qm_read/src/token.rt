@@ -52,3 +52,12 @@ pub enum Last {
     /// next byte, and the bytes after the quote.
     Str(u64, u8, bool, Text),
 }
+
+/// What stands at the front of a text.
+#[derive(Drop)]
+pub struct Lexeme {
+    /// Its token; none of white space.
+    pub token: Option<Token>,
+    /// How many bytes it takes.
+    pub length: usize,
+}

@@ -1,13 +1,14 @@
-use Rattle.std.proofs.Common.{◌≡◌, length, drop, Ok}
-use Rattle.qm_read.specs.declared.token.Last.TheVariants.{Whole}
-use Rattle.qm_read.specs.Bytes.{numbered}
-use Rattle.qm_read.specs.Feeding.{fed, LiesBefore}
-use Rattle.qm_read.specs.Stacks.{begun}
+use Rattle.std.proofs.Common.{◌≡◌, ◌-◌, ◌≤◌, length, drop}
+use Rattle.qm_read.specs.Faults.{reading_of}
+use Rattle.qm_read.specs.Lexemes.{reading_from}
 use Rattle.qm_read.proofs.reading.read.Given as goal
 
 -- what is left, from what was read, is the whole from the beginning
-abbrev pub invariant-loop-i : goal.invariant-loop-i
-invariant-loop-i l = record {
-  before : LiesBefore l.intake.last l.i;
-  left : fed l.intake.last (Ok l.intake.state) (numbered l.i (drop l.i l.text)) (length l.text) ≡ fed Whole (Ok begun) (numbered 0 l.text) (length l.text);
+abbrev pub invariant-loop-place : goal.invariant-loop-place
+invariant-loop-place l = record {
+  within : l.place ≤ length l.text;
+  left : reading_from l.reader l.place (drop l.place l.text) (length l.text) ≡ reading_of l.text;
 }
+
+abbrev pub decreases-loop-place : goal.decreases-loop-place
+decreases-loop-place l = length l.text - l.place
