@@ -9,7 +9,14 @@ pub mod Fresh
 pub mod Holds
 pub mod Lexing
 pub mod LiteralLemmas
+pub mod Nested
+pub mod NumberBytes
+pub mod Pieces
+pub mod PrintedLists
+pub mod PrintedValues
 pub mod Refusals
 pub mod Results
 pub mod Runs
+pub mod StringEscapes
 pub mod StringLemmas
+pub mod UnitEscapes
