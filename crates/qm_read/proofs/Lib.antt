@@ -11,6 +11,7 @@ pub mod Lexing
 pub mod LiteralLemmas
 pub mod Nested
 pub mod NumberBytes
+pub mod Numbered
 pub mod Pieces
 pub mod PrintedLists
 pub mod PrintedValues

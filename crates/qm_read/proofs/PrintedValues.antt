@@ -16,25 +16,21 @@ use Rattle.qm_json.proofs.PrintLaws.{printed-Null, printed-Bool, printed-Int, pr
 use Rattle.qm_json.proofs.Wholes.{whole_of-printed, literal-printed}
 use Rattle.qm_frame.specs.declared.step.TheConstants.{MAX_DEPTH}
 use Rattle.qm_read.specs.declared.fault.JsonFault.{JsonFault}
-use Rattle.qm_read.specs.declared.token.Last.TheVariants.{Whole}
 use Rattle.qm_read.specs.declared.token.Token.{Token}
 use Rattle.qm_read.specs.declared.token.Token.TheVariants as tokens
 use Rattle.qm_read.specs.declared.stack.Open.{Open}
 use Rattle.qm_read.specs.declared.stack.Open.TheVariants.{Top}
 use Rattle.qm_read.specs.declared.stack.Expect.{Expect}
 use Rattle.qm_read.specs.declared.stack.Expect.TheVariants.{Value}
-use Rattle.qm_read.specs.Bytes.{numbered}
-use Rattle.qm_read.specs.Tokens.{number_token, literal_token}
-use Rattle.qm_read.specs.Stacks.{begun, takes_value, put}
+use Rattle.qm_read.specs.Tokens.{number_token, literal_token, tokens_of}
+use Rattle.qm_read.specs.Stacks.{State, begun, takes_value, put}
 use Rattle.qm_read.specs.Steps.{step, value_step}
 use Rattle.qm_read.specs.Faults.{reading_of}
-use Rattle.qm_read.specs.Feeding.{fed}
-use Rattle.qm_read.proofs.Feeds.{fed-whole}
 use Rattle.qm_json.specs.Nesting.{depth}
 use Rattle.qm_json.proofs.Distinct.{names}
 use Rattle.qm_json.proofs.NestingLaws.{depth-Arr, depth-Obj}
 use Rattle.qm_read.proofs.Accepts.{going, not_name}
-use Rattle.qm_read.proofs.Pieces.{number-leads, string-leads, null-leads, bool-leads}
+use Rattle.qm_read.proofs.Pieces.{read_from, ends_run, number-leads, string-leads, null-leads, bool-leads}
 use Rattle.qm_json.proofs.Inductions.{Inductive, every-Json}
 use Rattle.qm_read.specs.Texts.{Spells}
 use Rattle.qm_read.proofs.NumberBytes.{literal-run}
@@ -56,48 +52,47 @@ string-step bytes stack e t place = cond-false _ _ _ (not_name e t) ∙ value-st
 
 module _ (n : ℕ) (answer : Result Json JsonFault) where
   -- the same of a value by its printed text
-  reads-as : (v : Json) (text : List ℕ) (top : Open) (outer : List Open) (e : Expect) (rest : List ℕ) → printed v ≡ text → On n answer (going (top ∷ outer) e) (text ++ rest) → On n answer (going (top ∷ outer) e) (printed v ++ rest)
-  reads-as v text top outer e rest is leads = subst (λ (l : List ℕ). On n answer (going (top ∷ outer) e) (l ++ rest)) (sym is) leads
+  by-text : (v : Json) (text : List ℕ) (s : State) (rest : List ℕ) → printed v ≡ text → On n answer s (text ++ rest) → On n answer s (printed v ++ rest)
+  by-text v text s rest is leads = subst (λ (l : List ℕ). On n answer s (l ++ rest)) (sym is) leads
 
-  reads-num : (text : List ℕ) → IsRead n answer (json.Num text)
-  reads-num text clean d deep top outer e rest t room k leads =
-      let parts = and_parts (is_literal text) (not (is_whole_literal text)) (sym (is_clean-Num text) ∙ clean) in
-      reads-as (json.Num text) text top outer e rest (printed-Num text)
-      (number-leads n answer text (going (top ∷ outer) e) (put (json.Num text) (top ∷ outer)) rest (literal-run text parts.0)
-      (λ place. ap (λ (token : Token). step (going (top ∷ outer) e) token place) (num-token text place parts.0 (not-true _ parts.1)) ∙ value-step (json.Num text) (top ∷ outer) e t place) k leads)
-
-  reads-int : (number : ℤ) → IsRead n answer (json.Int number)
-  reads-int number clean d deep top outer e rest t room k leads =
-      let within : is_in_whole_range number ≡ true = sym (is_clean-Int number) ∙ clean in
-      reads-as (json.Int number) (signed_decimal number) top outer e rest (printed-Int number)
-      (number-leads n answer (signed_decimal number) (going (top ∷ outer) e) (put (json.Int number) (top ∷ outer)) rest (literal-run (signed_decimal number) (literal-printed number within))
-      (λ place. ap (λ (token : Token). step (going (top ∷ outer) e) token place) (int-token number place within) ∙ value-step (json.Int number) (top ∷ outer) e t place) k leads)
+  by-number : (v : Json) (text : List ℕ) (token : Token) (s next : State) (rest : List ℕ) → printed v ≡ text → is_literal text ≡ true → ((place : ℕ) → number_token place text ≡ token) → ((place : ℕ) → step s token place ≡ Ok next) → ends_run rest ≡ true → On n answer next rest → On n answer s (printed v ++ rest)
+  by-number v text token s next rest is literal same e k leads =
+      by-text v text s rest is (number-leads n answer text s next rest (literal-run text literal) (λ place. ap (λ (t : Token). step s t place) (same place) ∙ e place) k leads)
 
   reads-each : Inductive (IsRead n answer)
   reads-each = record {
-    null = λ clean d deep top outer e rest t room k leads.
-        reads-as json.Null _ top outer e rest printed-Null (null-leads n answer (going (top ∷ outer) e) (put json.Null (top ∷ outer)) rest (value-step json.Null (top ∷ outer) e t) k leads);
-    bool = λ b clean d deep top outer e rest t room k leads.
-        reads-as (json.Bool b) _ top outer e rest (printed-Bool b) (bool-leads n answer b (going (top ∷ outer) e) (put (json.Bool b) (top ∷ outer)) rest (value-step (json.Bool b) (top ∷ outer) e t) k leads);
-    int = reads-int;
-    num = reads-num;
-    string = λ bytes clean d deep top outer e rest t room k leads.
-        reads-as (json.Str bytes) _ top outer e rest (printed-Str bytes)
-        (string-leads n answer bytes (going (top ∷ outer) e) (put (json.Str bytes) (top ∷ outer)) rest (IsUtf8-from_is_utf8 bytes (sym (is_clean-Str bytes) ∙ clean)) (string-step bytes (top ∷ outer) e t) leads);
-    array = λ items hs clean d deep top outer e rest t room k leads.
-        reads-as (json.Arr items) _ top outer e rest (printed-Arr items)
-        (array-leads n answer d items top outer e rest hs (sym (is_clean-Arr items) ∙ clean) (omega (arith, deep, depth-Arr items)) t room leads);
-    object = λ members hs clean d deep top outer e rest t room k leads.
+    null = λ clean d deep next outer e rest t room k leads.
+        by-text json.Null _ (going (next ∷ outer) e) rest printed-Null
+        (null-leads n answer (going (next ∷ outer) e) (put json.Null (next ∷ outer)) rest (value-step json.Null (next ∷ outer) e t) k leads);
+    bool = λ b clean d deep next outer e rest t room k leads.
+        by-text (json.Bool b) _ (going (next ∷ outer) e) rest (printed-Bool b)
+        (bool-leads n answer b (going (next ∷ outer) e) (put (json.Bool b) (next ∷ outer)) rest (value-step (json.Bool b) (next ∷ outer) e t) k leads);
+    int = λ number clean d deep next outer e rest t room k leads.
+        let within : is_in_whole_range number ≡ true = sym (is_clean-Int number) ∙ clean in
+        by-number (json.Int number) (signed_decimal number) (tokens.Int number) (going (next ∷ outer) e) (put (json.Int number) (next ∷ outer)) rest (printed-Int number) (literal-printed number within)
+        (λ place. int-token number place within) (value-step (json.Int number) (next ∷ outer) e t) k leads;
+    num = λ text clean d deep next outer e rest t room k leads.
+        let parts = and_parts (is_literal text) (not (is_whole_literal text)) (sym (is_clean-Num text) ∙ clean) in
+        by-number (json.Num text) text (tokens.Num text) (going (next ∷ outer) e) (put (json.Num text) (next ∷ outer)) rest (printed-Num text) parts.0
+        (λ place. num-token text place parts.0 (not-true _ parts.1)) (value-step (json.Num text) (next ∷ outer) e t) k leads;
+    string = λ bytes clean d deep next outer e rest t room k leads.
+        by-text (json.Str bytes) _ (going (next ∷ outer) e) rest (printed-Str bytes)
+        (string-leads n answer bytes (going (next ∷ outer) e) (put (json.Str bytes) (next ∷ outer)) rest (IsUtf8-from_is_utf8 bytes (sym (is_clean-Str bytes) ∙ clean)) (string-step bytes (next ∷ outer) e t) leads);
+    array = λ items hs clean d deep next outer e rest t room k leads.
+        by-text (json.Arr items) _ (going (next ∷ outer) e) rest (printed-Arr items)
+        (array-leads n answer next outer rest d items e hs (sym (is_clean-Arr items) ∙ clean) (omega (arith, deep, depth-Arr items)) t room leads);
+    object = λ members hs clean d deep next outer e rest t room k leads.
         let parts = and_parts (are_distinct (names members)) (list_all is_clean_member members) (sym (is_clean-Obj members) ∙ clean) in
-        reads-as (json.Obj members) _ top outer e rest (printed-Obj members)
-        (object-leads n answer d members top outer e rest hs parts.1 parts.0 (omega (arith, deep, depth-Obj members)) t room leads);
+        by-text (json.Obj members) _ (going (next ∷ outer) e) rest (printed-Obj members)
+        (object-leads n answer next outer rest d members e hs parts.1 parts.0 (omega (arith, deep, depth-Obj members)) t room leads);
   }
 
 pub printed-value : (v : Json) → IsClean v → depth v ≤ MAX_DEPTH → reading_of (printed v) ≡ Ok v
+unfolding reading_of tokens_of
 printed-value v clean deep =
-    sym (fed-whole (printed v))
-    ∙ ap (λ (l : List ℕ). fed Whole (Ok begun) (numbered 0 l) (length (printed v))) (sym (append-nil (printed v)))
-    ∙ every-Json (IsRead (length (printed v)) (Ok v)) (reads-each (length (printed v)) (Ok v)) v clean MAX_DEPTH deep Top [] Value [] refl (omega arith) refl (λ place. refl) 0
+    let n : ℕ = length (printed v) in
+    ap (λ (l : List ℕ). read_from n (Ok v) begun 0 l) (sym (append-nil (printed v)))
+    ∙ every-Json (IsRead n (Ok v)) (reads-each n (Ok v)) v clean MAX_DEPTH deep Top [] Value [] refl (omega arith) refl (λ place. refl) 0
 
 -- the printed text of a clean value, nested no deeper than texts may be, spells the value
 pub printed-spells : (v : Json) → IsClean v → depth v ≤ MAX_DEPTH → Spells (printed v) v
