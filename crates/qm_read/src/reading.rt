@@ -55,7 +55,8 @@ pub fn memory_is_no_fault()
 
 /// What a text is read as is nested at most `MAX_DEPTH` deep (RFC 8259, section 9).
 pub fn no_value_is_too_deep()
-    ensures { (text : List ℕ) (value : Json) → reading_of text ≡ Ok value → depth value ≤ MAX_DEPTH }
+    ensures { (text : List ℕ) (value : Json) → reading_of text ≡ Ok value →
+        depth value ≤ MAX_DEPTH }
 {}
 
 /// The printed text of a clean value, nested at most `MAX_DEPTH` deep, spells the value.
