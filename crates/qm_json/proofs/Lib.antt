@@ -1,7 +1,10 @@
 pub mod Chunks
 pub mod CleanLaws
+pub mod Distinct
+pub mod Inductions
 pub mod Joined
 pub mod Measures
+pub mod NestingLaws
 mod NumberExamples
 pub mod Plain
 pub mod PrintLaws

@@ -45,20 +45,27 @@ unsigned (d ∷ ds) h all =
     let no_plus : (d == 43) ≡ false = grind (arith, nat_tests) in
     (rw no_minus refl, rw (no_minus, no_plus) refl)
 
--- a literal of a number in the range
-whole : (text : List ℕ) (n : ℤ) → is_whole_part (after_minus text) ≡ true → signed_digits_value 10 text ≡ n → is_in_whole_range n ≡ true → whole_of text ≡ Some n
-whole text n part value h = rw (part, value, h) refl
+-- the literal of a whole number in the range
+record IsWhole (text : List ℕ) (n : ℤ) : Type 0 where
+  literal : is_whole_literal text ≡ true
+  value : signed_digits_value 10 text ≡ n
 
-pub whole_of-printed : (n : ℤ) → is_in_whole_range n ≡ true → whole_of (signed_decimal n) ≡ Some n
-whole_of-printed (pos n) h =
+whole : (text : List ℕ) (n : ℤ) → is_whole_part (after_minus text) ≡ true → signed_digits_value 10 text ≡ n → is_in_whole_range n ≡ true → IsWhole text n
+whole text n part value h = record { literal = and_from _ _ part (ap is_in_whole_range value ∙ h); value = value }
+
+printed : (n : ℤ) → is_in_whole_range n ≡ true → IsWhole (signed_decimal n) n
+printed (pos n) h =
     let below = (and_parts (int_le (neg_ℤ (pos (2 ^ 63))) (pos n)) (int_lt (pos n) (pos (2 ^ 64))) h).1 in
     let small : n < 2 ^ 64 = grind (arith, nat_tests) in
     let plain = unsigned (decimal n) (decimal_nonempty n small) (all_digits n small) in
     whole (decimal n) (pos n) (ap is_whole_part plain.0 ∙ whole_decimal n small) (plain.1 ∙ ap pos (decimal_is_IsNumeral n small).1) h
-whole_of-printed (negsuc n) h =
+printed (negsuc n) h =
     let above = (and_parts (int_le (neg_ℤ (pos (2 ^ 63))) (negsuc n)) (int_lt (negsuc n) (pos (2 ^ 64))) h).0 in
     let small : suc n < 2 ^ 64 = grind (arith, nat_tests) in
     whole (45 ∷ decimal (suc n)) (negsuc n) (whole_decimal (suc n) small) (ap (λ k. neg_ℤ (pos k)) (decimal_is_IsNumeral (suc n) small).1) h
+
+pub whole_of-printed : (n : ℤ) → is_in_whole_range n ≡ true → whole_of (signed_decimal n) ≡ Some n
+whole_of-printed n h = let w = printed n h in rw (w.literal, w.value) refl
 
 digits_alone : (ds : List ℕ) → list_all is_ascii_digit ds ≡ true → digits_len ds ≡ length ds
 digits_alone [] all = refl
@@ -77,3 +84,7 @@ whole_unsigned (d ∷ ds) part =
 
 pub whole_is_literal : (text : List ℕ) → is_whole_literal text ≡ true → is_literal text ≡ true
 whole_is_literal text h = whole_unsigned (after_minus text) (and_parts (is_whole_part (after_minus text)) (is_in_whole_range (signed_digits_value 10 text)) h).0
+
+-- the printed text of a whole number is a literal
+pub literal-printed : (n : ℤ) → is_in_whole_range n ≡ true → is_literal (signed_decimal n) ≡ true
+literal-printed n h = whole_is_literal (signed_decimal n) (printed n h).literal

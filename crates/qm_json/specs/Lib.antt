@@ -1,5 +1,6 @@
 pub mod Cleanness
 pub mod Members
+pub mod Nesting
 pub mod Numbers
 pub mod Printing
 pub mod Strings

@@ -18,17 +18,17 @@ use Rattle.qm_read.specs.Faults.{run, ended, reading}
 use Rattle.qm_read.specs.Tokens.{at}
 use Rattle.qm_read.specs.Spelling.{SpellsValue, null, bool, int, num, string, no_items, array, no_members, object, SpellsItems, item, more_items, SpellsMembers, member, more_members}
 
-abbrev going : List Open → Expect → State
+abbrev pub going : List Open → Expect → State
 going stack e = record { stack = stack; expect = e }
 
 -- d more brackets may be opened
-abbrev Room : ℕ → List Open → Type 0
+abbrev pub Room : ℕ → List Open → Type 0
 Room d stack = length stack + d ≡ MAX_DEPTH + 1
 
 may_open : (d : ℕ) (stack : List Open) → Room (suc d) stack → nat_lt (length stack) (MAX_DEPTH + 1) ≡ true
 may_open d stack h = grind (arith, nat_tests, h)
 
-not_name : (e : Expect) → takes_value e ≡ true → takes_name e ≡ false
+pub not_name : (e : Expect) → takes_value e ≡ true → takes_name e ≡ false
 not_name Value h = refl
 not_name ValueOrEnd h = refl
 not_name Name h = cc
@@ -37,13 +37,13 @@ not_name Colon h = refl
 not_name CommaOrEnd h = refl
 not_name End h = refl
 
-opens_array : (d : ℕ) (stack : List Open) (e : Expect) (p : ℕ) (rest : List Placed) → takes_value e ≡ true → Room (suc d) stack → run (going stack e) (at tokens.OpenArray p ∷ rest) ≡ run (going (Arr [] ∷ stack) ValueOrEnd) rest
+pub opens_array : (d : ℕ) (stack : List Open) (e : Expect) (p : ℕ) (rest : List Placed) → takes_value e ≡ true → Room (suc d) stack → run (going stack e) (at tokens.OpenArray p ∷ rest) ≡ run (going (Arr [] ∷ stack) ValueOrEnd) rest
 opens_array d stack e p rest t h = rw (t, may_open d stack h) refl
 
-opens_object : (d : ℕ) (stack : List Open) (e : Expect) (p : ℕ) (rest : List Placed) → takes_value e ≡ true → Room (suc d) stack → run (going stack e) (at tokens.OpenObject p ∷ rest) ≡ run (going (Obj [] [] ∷ stack) NameOrEnd) rest
+pub opens_object : (d : ℕ) (stack : List Open) (e : Expect) (p : ℕ) (rest : List Placed) → takes_value e ≡ true → Room (suc d) stack → run (going stack e) (at tokens.OpenObject p ∷ rest) ≡ run (going (Obj [] [] ∷ stack) NameOrEnd) rest
 opens_object d stack e p rest t h = rw (t, may_open d stack h) refl
 
-deeper : (d : ℕ) (stack : List Open) (top : Open) → Room (suc d) stack → Room d (top ∷ stack)
+pub deeper : (d : ℕ) (stack : List Open) (top : Open) → Room (suc d) stack → Room d (top ∷ stack)
 deeper d stack top h = omega (arith, h)
 
 new_name : (members : List Member) (stack : List Open) (name : List ℕ) (p q : ℕ) (rest : List Placed) → has_name members name ≡ false → run (going (Obj members [] ∷ stack) Name) (at (tokens.Str name) p ∷ at tokens.Colon q ∷ rest) ≡ run (going (Obj members name ∷ stack) Value) rest

@@ -10,8 +10,16 @@ pub mod Holds
 pub mod LexemeLaws
 pub mod LiteralLemmas
 pub mod NameLemmas
+pub mod Nested
+pub mod NumberBytes
+pub mod Numbered
+pub mod Pieces
 pub mod PlainStrings
+pub mod PrintedLists
+pub mod PrintedValues
 pub mod Refusals
 pub mod Results
 pub mod Runs
+pub mod StringEscapes
 pub mod StringLemmas
+pub mod UnitEscapes

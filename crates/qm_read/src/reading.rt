@@ -1,5 +1,7 @@
-ghost use Rattle.std.specs.Prelude.{ℕ, List, length, ◌+◌, ◌<◌, ◌^◌, ◌↔◌, ◌≡◌, ◌≢◌, IfOk, IfErr, Ok, Err};
+ghost use Rattle.std.specs.Prelude.{ℕ, List, length, ◌+◌, ◌<◌, ◌≤◌, ◌^◌, ◌↔◌, ◌≡◌, ◌≢◌, IfOk, IfErr, Ok, Err};
 ghost use Rattle.qm_json.specs.Cleanness.{IsClean};
+ghost use Rattle.qm_json.specs.Nesting.{depth};
+ghost use Rattle.qm_json.specs.Printing.{printed};
 ghost use Rattle.qm_read.specs.Faults.{reading_of};
 ghost use Rattle.qm_read.specs.Lexemes.{Advances};
 ghost use Rattle.qm_read.specs.Texts.{HasFault, Spells};
@@ -10,6 +12,7 @@ use crate::reader::Reader;
 use crate::strings::past;
 use crate::token::Lexeme;
 use qm_base::NoMemory;
+use qm_frame::MAX_DEPTH;
 use qm_json::Json;
 use std::alloc::Global;
 
@@ -74,4 +77,22 @@ pub fn each_value_is_clean()
 /// Want of memory is no fault of a text.
 pub fn memory_is_no_fault()
     ensures { (text : List ℕ) → reading_of text ≢ Err JsonFault.Memory }
+{}
+
+/// What a text is read as is nested at most `MAX_DEPTH` deep (RFC 8259, section 9).
+pub fn no_value_is_too_deep()
+    ensures { (text : List ℕ) (value : Json) → reading_of text ≡ Ok value →
+        depth value ≤ MAX_DEPTH }
+{}
+
+/// The printed text of a clean value, nested at most `MAX_DEPTH` deep, spells the value.
+pub fn each_printed_value_is_spelled()
+    ensures { (value : Json) → IsClean value → depth value ≤ MAX_DEPTH →
+        Spells (printed value) value }
+{}
+
+/// The printed text of a clean value, nested at most `MAX_DEPTH` deep, is read as the value.
+pub fn each_printed_value_is_read()
+    ensures { (value : Json) → IsClean value → depth value ≤ MAX_DEPTH →
+        reading_of (printed value) ≡ Ok value }
 {}
