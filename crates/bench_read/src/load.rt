@@ -75,7 +75,7 @@ fn name(block: &mut Text, number: u32) -> Result<(), NoMemory> {
 fn names(alloc: Global, opener: u8, between: u8, closer: u8) -> Result<Text, NoMemory> {
     let mut block = Text::new(alloc);
     block.push(opener)?;
-    for number in 0..131_000 {
+    for number in 0..131_492 {
         if number > 0 {
             block.push(b',')?;
         }
