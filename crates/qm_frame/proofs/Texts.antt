@@ -33,26 +33,26 @@ Knows text s = is_open text ≡ true → s ≡ state_of text
 pub within_of : (text now : List ℕ) (s : State) → text ≡ now → is_open now ≡ true → Knows text s → IsWithin s
 within_of text now s e o k = let h : is_open text ≡ true = rw e o in rw (k h) (is_open-within text h)
 
-judges_of : (text now : List ℕ) (s : State) (x : ℕ) (j : Judged) → text ≡ now → is_open now ≡ true → Knows text s → j ≡ judged s x → Judges j text x
-judges_of text now s x j e o k h = let p : is_open text ≡ true = rw e o in rw (h, k p) (judged-judges text x p)
+judges_of : (text now : List ℕ) (s : State) (n x : ℕ) (j : Judged) → n ≡ length now → text ≡ now → is_open now ≡ true → Knows text s → j ≡ judged s n x → Judges j text x
+judges_of text now s n x j l e o k h = let p : is_open text ≡ true = rw e o in let m : n ≡ length text = rw e l in rw (h, m, k p) (judged-judges text x p)
 
-pub taken_of : (text now : List ℕ) (s : State) (x : ℕ) (next : State) → text ≡ now → is_open now ≡ true → Knows text s → Taken next ≡ judged s x → IsTaken text now x next
-taken_of text now s x next e o k j =
-    let h : Judges (Taken next) text x = judges_of text now s x (Taken next) e o k j in
+pub taken_of : (text now : List ℕ) (s : State) (n x : ℕ) (next : State) → n ≡ length now → text ≡ now → is_open now ≡ true → Knows text s → Taken next ≡ judged s n x → IsTaken text now x next
+taken_of text now s n x next l e o k j =
+    let h : Judges (Taken next) text x = judges_of text now s n x (Taken next) l e o k j in
     record { more = h.0; state = h.1; room = h.2; step = rw (← e, h.0) refl }
 
-pub ended_of : (text now : List ℕ) (s : State) (x : ℕ) → text ≡ now → is_open now ≡ true → Knows text s → Ends ≡ judged s x → IsEnded text now x
-ended_of text now s x e o k j =
-    let h : Judges Ends text x = judges_of text now s x Ends e o k j in
+pub ended_of : (text now : List ℕ) (s : State) (n x : ℕ) → n ≡ length now → text ≡ now → is_open now ≡ true → Knows text s → Ends ≡ judged s n x → IsEnded text now x
+ended_of text now s n x l e o k j =
+    let h : Judges Ends text x = judges_of text now s n x Ends l e o k j in
     record { shut = h.0; room = h.2; step = rw (← e, h.0, h.1) refl }
 
 recovers : (b : Bool) (fault : FrameFault) (n : ℕ) → after_front (cond b (Piece (Err fault ∷ []) n) (Final (Err fault ∷ []) Skipping)) (λ (k : ℕ). nothing) ≡ record { answers = Err fault ∷ []; rest = cond b Between Skipping }
 recovers true fault n = refl
 recovers false fault n = refl
 
-pub wrong_of : (text now : List ℕ) (s : State) (x : ℕ) (fault : FrameFault) → text ≡ now → is_open now ≡ true → Knows text s → Wrong fault ≡ judged s x → step (Inside now) x ≡ record { answers = Err fault ∷ []; rest = cond (is_reset x) Between Skipping }
-wrong_of text now s x fault e o k j =
-    let h : Judges (Wrong fault) text x = judges_of text now s x (Wrong fault) e o k j in
+pub wrong_of : (text now : List ℕ) (s : State) (n x : ℕ) (fault : FrameFault) → n ≡ length now → text ≡ now → is_open now ≡ true → Knows text s → Wrong fault ≡ judged s n x → step (Inside now) x ≡ record { answers = Err fault ∷ []; rest = cond (is_reset x) Between Skipping }
+wrong_of text now s n x fault l e o k j =
+    let h : Judges (Wrong fault) text x = judges_of text now s n x (Wrong fault) l e o k j in
     rw (← e, h.0, h.1, h.2) (recovers (is_reset x) fault (length text))
 
 pub empty_shut : is_open [] ≡ false

@@ -1,5 +1,5 @@
 -- What is known of an open text, and what one more byte makes of it (serves private functions).
-use Rattle.std.specs.Prelude.{◌≡◌, ◌≤◌, ℕ, ◌+◌, ◌==◌, nat_lt, true, cond, List, length}
+use Rattle.std.specs.Prelude.{◌≡◌, ◌≤◌, ℕ, ◌==◌, nat_lt, true, cond, List}
 use Rattle.qm_frame.specs.declared.step.FrameFault.TheVariants.{LexError, TooDeep, TooLong}
 use Rattle.qm_frame.specs.declared.step.TheConstants.{MAX_LENGTH, MAX_DEPTH}
 use Rattle.qm_frame.specs.declared.judging.Judged.{Judged}
@@ -11,25 +11,23 @@ use Rattle.qm_frame.specs.Moves.{moved, depth_after}
 
 -- what is known of a text
 abbrev pub state_of : List ℕ → State
-state_of text = record { last = (pieces text).rest; depth = level_of text; length = length text }
+state_of text = record { last = (pieces text).rest; depth = level_of text }
 
 -- the bounds of what is known of an open text
 pub record IsWithin (s : State) : Type 0 where
   pub low : 1 ≤ s.depth
   pub high : s.depth ≤ MAX_DEPTH
-  pub short : s.length ≤ MAX_LENGTH
 
--- what one more byte makes of an open text
-abbrev pub judged : State → ℕ → Judged
-judged s x =
-    cond (s.length == MAX_LENGTH) (Wrong TooLong)
+-- what one more byte makes of an open text of so many bytes
+abbrev pub judged : State → ℕ → ℕ → Judged
+judged s n x =
+    cond (n == MAX_LENGTH) (Wrong TooLong)
     (cond (is_broken (moved s.last x).rest) (Wrong LexError)
     (cond (nat_lt MAX_DEPTH (depth_after s.last s.depth x)) (Wrong TooDeep)
     (cond (depth_after s.last s.depth x == 0) Ends
     (Taken record {
       last = (moved s.last x).rest;
       depth = depth_after s.last s.depth x;
-      length = s.length + 1;
     }))))
 
 -- there is room for a message, and what is known of the text is right while it is open

@@ -9,7 +9,6 @@ use crate::step::{FrameFault, MAX_DEPTH, MAX_LENGTH};
 pub struct State {
     pub last: LastPiece,
     pub depth: usize,
-    pub length: usize,
 }
 
 /// What one more byte makes of an open text.
@@ -19,14 +18,14 @@ pub enum Judged {
     Wrong(FrameFault),
 }
 
-/// What one more byte makes of an open text of which this is known.
-pub fn judge(state: State, byte: u8) -> Judged
+/// What one more byte makes of an open text of so many bytes, of which this is known.
+pub fn judge(state: State, length: usize, byte: u8) -> Judged
     requires { IsWithin state }
-    ensures { result ≡ judged state byte }
+    ensures { result ≡ judged state length byte }
 {
     let last = next(state.last, byte);
     let depth = depth_after(state.last, state.depth, byte);
-    if state.length == MAX_LENGTH {
+    if length == MAX_LENGTH {
         Judged::Wrong(FrameFault::TooLong)
     } else if is_broken(last) {
         Judged::Wrong(FrameFault::LexError)
@@ -35,10 +34,6 @@ pub fn judge(state: State, byte: u8) -> Judged
     } else if depth == 0 {
         Judged::Ends
     } else {
-        Judged::Taken(State {
-            last,
-            depth,
-            length: state.length + 1,
-        })
+        Judged::Taken(State { last, depth })
     }
 }
