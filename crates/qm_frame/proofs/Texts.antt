@@ -1,16 +1,20 @@
 -- What one more byte of a message does, as the framing has it.
-use Rattle.std.proofs.Common.{◌≡◌, ℕ, ◌<◌, Bool, true, false, cond, List, [], ◌∷◌, ◌++◌, length, Ok, Err, refl, arith, ◌⊎◌, inl, inr}
+use Rattle.std.proofs.Common.{◌≡◌, ℕ, ◌<◌, ◌==◌, nat_lt, Bool, true, false, not, cond, ◌&&◌, List, [], ◌∷◌, ◌++◌, length, Ok, Err, refl, arith, ◌⊎◌, inl, inr}
+use Rattle.std.proofs.lemmas.Bool.{and_parts}
 use Rattle.std.proofs.lemmas.Bool.Decides.{nat_tests}
 use Rattle.qm_base.specs.Search.{Piece, Final, after_front}
 use Rattle.qm_frame.specs.declared.step.FrameFault.{FrameFault}
-use Rattle.qm_frame.specs.declared.step.TheConstants.{MAX_LENGTH}
+use Rattle.qm_frame.specs.declared.step.TheConstants.{MAX_LENGTH, MAX_DEPTH}
+use Rattle.qm_frame.specs.declared.piece.LastPiece.{LastPiece}
+use Rattle.qm_frame.specs.declared.piece.LastPiece.TheVariants.{Whole, Number, Word, Str, Escape, Broken}
 use Rattle.qm_frame.specs.declared.judging.Judged.{Judged}
 use Rattle.qm_frame.specs.declared.judging.Judged.TheVariants.{Taken, Ends, Wrong}
 use Rattle.qm_frame.specs.declared.judging.State.{State}
-use Rattle.qm_frame.specs.Bytes.{is_opener, is_reset}
+use Rattle.qm_frame.specs.Bytes.{is_opener, is_barred, is_reset}
+use Rattle.qm_frame.specs.Moves.{is_plain}
 use Rattle.qm_frame.specs.Messages.{is_open}
 use Rattle.qm_frame.specs.Framing.{Between, Inside, Skipping}
-use Rattle.qm_frame.specs.States.{state_of, judged, IsWithin}
+use Rattle.qm_frame.specs.States.{state_of, judged, is_run, IsWithin}
 use Rattle.qm_frame.specs.Steps.{nothing, step}
 use Rattle.qm_frame.proofs.Opens.{is_open-within, Judges, judged-judges}
 
@@ -40,6 +44,28 @@ pub taken_of : (text now : List ℕ) (s : State) (n x : ℕ) (next : State) → 
 taken_of text now s n x next l e o k j =
     let h : Judges (Taken next) text x = judges_of text now s n x (Taken next) l e o k j in
     record { more = h.0; state = h.1; room = h.2; step = rw (← e, h.0) refl }
+
+run-taken : (l : LastPiece) (d n x : ℕ) → IsWithin (record { last = l; depth = d }) → is_run l n x ≡ true → Taken (record { last = l; depth = d }) ≡ judged (record { last = l; depth = d }) n x
+run-taken (Str quote) d n x w e =
+    let a : (nat_lt n MAX_LENGTH ≡ true) × (is_plain quote x ≡ true) = and_parts _ _ e in
+    let b : (not (is_barred x) && not (x == quote) ≡ true) × (not (x == 92) ≡ true) = and_parts _ _ a.1 in
+    let p : (not (is_barred x) ≡ true) × (not (x == quote) ≡ true) = and_parts _ _ b.0 in
+    let long : (n == MAX_LENGTH) ≡ false = grind (arith, nat_tests, a.0) in
+    let barred : is_barred x ≡ false = grind (arith, p.0) in
+    let other : (x == quote) ≡ false = grind (arith, p.1) in
+    let slash : (x == 92) ≡ false = grind (arith, b.1) in
+    let deep : nat_lt MAX_DEPTH d ≡ false = grind (arith, nat_tests, w.high) in
+    let some : (d == 0) ≡ false = grind (arith, nat_tests, w.low) in
+    rw (long, barred, other, slash, deep, some) refl
+run-taken (Escape quote) d n x w e = cc
+run-taken Whole d n x w e = cc
+run-taken Number d n x w e = cc
+run-taken Word d n x w e = cc
+run-taken Broken d n x w e = cc
+
+-- a byte that lengthens an unclosed string
+pub run_of : (text now : List ℕ) (s : State) (n x : ℕ) → n ≡ length now → text ≡ now → is_open now ≡ true → Knows text s → is_run s.last n x ≡ true → IsTaken text now x s
+run_of text now s n x l e o k r = taken_of text now s n x s l e o k (run-taken s.last s.depth n x (within_of text now s e o k) r)
 
 pub ended_of : (text now : List ℕ) (s : State) (n x : ℕ) → n ≡ length now → text ≡ now → is_open now ≡ true → Knows text s → Ends ≡ judged s n x → IsEnded text now x
 ended_of text now s n x l e o k j =

@@ -1,7 +1,7 @@
 ghost use Rattle.std.specs.Prelude.{◌≡◌};
-ghost use Rattle.qm_frame.specs.States.{judged, IsWithin};
+ghost use Rattle.qm_frame.specs.States.{judged, is_run, IsWithin};
 
-use crate::piece::{LastPiece, depth_after, is_broken, next};
+use crate::piece::{LastPiece, depth_after, is_broken, is_plain, next};
 use crate::step::{FrameFault, MAX_DEPTH, MAX_LENGTH};
 
 /// What is known of an open text.
@@ -16,6 +16,17 @@ pub enum Judged {
     Taken(State),
     Ends,
     Wrong(FrameFault),
+}
+
+/// Whether an open text of so many bytes ends in an unclosed string that the byte lengthens.
+pub fn lengthens(last: LastPiece, length: usize, byte: u8) -> bool
+    ensures { result ≡ is_run last length byte }
+{
+    match last {
+        LastPiece::Str(quote) => length < MAX_LENGTH && is_plain(quote, byte),
+        LastPiece::Whole | LastPiece::Number | LastPiece::Word => false,
+        LastPiece::Escape(_) | LastPiece::Broken => false,
+    }
 }
 
 /// What one more byte makes of an open text of so many bytes, of which this is known.

@@ -4,7 +4,7 @@ ghost use Rattle.qm_frame.specs.Framing.{Inside};
 ghost use Rattle.qm_frame.specs.Steps.{step, stepped, split_by};
 ghost use Rattle.qm_frame.specs.Messages.{is_open};
 
-use crate::judging::{Judged, State, judge};
+use crate::judging::{Judged, State, judge, lengthens};
 use crate::piece::LastPiece;
 use crate::step::{MAX_LENGTH, Step};
 use qm_base::NoMemory;
@@ -90,7 +90,12 @@ impl OpenText {
             stepped result (split_by result byte self.new) }
         ensures open { result ≡ Step.More → is_open self.new ≡ true }
     {
-        match judge(self.state, self.len(), byte) {
+        let length = self.len();
+        if lengthens(self.state.last, length, byte) {
+            keep(&mut self.bytes, byte);
+            return Step::More;
+        }
+        match judge(self.state, length, byte) {
             Judged::Taken(state) => {
                 keep(&mut self.bytes, byte);
                 self.state = state;
