@@ -43,7 +43,10 @@ is_open-within [] e = let b : false ≡ true = (opened [] e).begins in cc
 is_open-within (y ∷ text) e =
     let o : IsOpen (y ∷ text) = opened (y ∷ text) e in
     let levels : (nat_le 1 (level_of (y ∷ text)) ≡ true) × (nat_le (level_of (y ∷ text)) MAX_DEPTH ≡ true) = and_parts _ _ (last-prefix is_level_open [] text y o.levels) in
-    record { low = grind (arith, nat_tests, levels.0); high = grind (arith, nat_tests, levels.1); short = grind (arith, nat_tests, o.short) }
+    record { low = grind (arith, nat_tests, levels.0); high = grind (arith, nat_tests, levels.1) }
+
+is_open-short : (text : List ℕ) → is_open text ≡ true → length text ≤ MAX_LENGTH
+is_open-short text e = grind (arith, nat_tests, (opened text e).short)
 
 -- one more byte
 each_prefix-more : (test : List ℕ → Bool) (front text : List ℕ) (x : ℕ) → each_prefix test front text ≡ true → each_prefix test front (text ++ x ∷ []) ≡ test (front ++ (text ++ x ∷ []))
@@ -101,17 +104,17 @@ holds broken n d s short level =
 holds_of : (j : Judged) (o o' m m' : Bool) (f f' : FrameFault) (k k' : State) (n : ℕ) → o ≡ o' → m ≡ m' → f ≡ f' → k ≡ k' → Holds j o' m' f' k' n → Holds j o m f k n
 holds_of j o o' m m' f f' k k' n a b c d h = rw (a, b, c, d) h
 
-state_is : (l l' : LastPiece) (d d' n n' : ℕ) → l ≡ l' → d ≡ d' → n ≡ n' → (let s : State = record { last = l; depth = d; length = n } in s) ≡ record { last = l'; depth = d'; length = n' }
-state_is l l' d d' n n' a b c = cc
+state_is : (l l' : LastPiece) (d d' : ℕ) → l ≡ l' → d ≡ d' → (let s : State = record { last = l; depth = d } in s) ≡ record { last = l'; depth = d' }
+state_is l l' d d' a b = cc
 
-state_of-more : (text : List ℕ) (x d : ℕ) → level_of (text ++ x ∷ []) ≡ d → state_of (text ++ x ∷ []) ≡ record { last = (moved (pieces text).rest x).rest; depth = d; length = length text + 1 }
-state_of-more text x d e = state_is _ _ _ _ _ _ (ap (λ (f : Found ℕ LastPiece). f.rest) (pieces-more text x)) e (length-append text (x ∷ []))
+state_of-more : (text : List ℕ) (x d : ℕ) → level_of (text ++ x ∷ []) ≡ d → state_of (text ++ x ∷ []) ≡ record { last = (moved (pieces text).rest x).rest; depth = d }
+state_of-more text x d e = state_is _ _ _ _ (ap (λ (f : Found ℕ LastPiece). f.rest) (pieces-more text x)) e
 
 -- what a judged byte makes of the text before it
 abbrev pub Judges : Judged → List ℕ → ℕ → Type 0
 Judges j text x = Holds j (is_open (text ++ x ∷ [])) (is_message (text ++ x ∷ [])) (fault_of (text ++ x ∷ [])) (state_of (text ++ x ∷ [])) (length text)
 
-pub judged-judges : (text : List ℕ) (x : ℕ) → is_open text ≡ true → Judges (judged (state_of text) x) text x
+pub judged-judges : (text : List ℕ) (x : ℕ) → is_open text ≡ true → Judges (judged (state_of text) (length text) x) text x
 judged-judges text x e =
     let known : IsWithin (state_of text) = is_open-within text e in
     let last : LastPiece = (pieces text).rest in
@@ -124,4 +127,4 @@ judged-judges text x e =
     (is_message-more text x e ∙ ap (λ (n : ℕ). (n == 0) && nat_le (length text + 1) MAX_LENGTH) level)
     (fault_of-more text x ∙ ap (λ (n : ℕ). cond (nat_lt MAX_LENGTH (length text + 1)) TooLong (cond (nat_lt MAX_DEPTH n) TooDeep LexError)) level)
     (state_of-more text x d level)
-    (holds broken (length text) d (record { last = (moved last x).rest; depth = d; length = length text + 1 }) known.short kept)
+    (holds broken (length text) d (record { last = (moved last x).rest; depth = d }) (is_open-short text e) kept)

@@ -1,5 +1,5 @@
 -- What one more byte adds to the pieces of a text, by the last of them (serves private functions).
-use Rattle.std.specs.Prelude.{ℕ, ◌+◌, ◌-◌, ◌==◌, Bool, true, false, cond, [], ◌∷◌}
+use Rattle.std.specs.Prelude.{ℕ, ◌+◌, ◌-◌, ◌==◌, Bool, true, false, not, cond, ◌&&◌, [], ◌∷◌}
 use Rattle.qm_base.specs.Search.{Found}
 use Rattle.qm_frame.specs.declared.piece.LastPiece.{LastPiece}
 use Rattle.qm_frame.specs.declared.piece.LastPiece.TheVariants.{Whole, Number, Word, Str, Escape, Broken}
@@ -29,6 +29,10 @@ moved (Str quote) x =
     (cond (x == 92) (ends_in (Escape quote)) (ends_in (Str quote))))
 moved (Escape quote) x = cond (is_barred x) (ends_in Broken) (ends_in (Str quote))
 moved Broken x = ends_in Broken
+
+-- a byte of a string with this quote that neither ends it nor escapes the next (92 is the backslash)
+abbrev pub is_plain : ℕ → ℕ → Bool
+is_plain quote x = not (is_barred x) && not (x == quote) && not (x == 92)
 
 -- a bracket after this piece does not count
 abbrev pub hides : LastPiece → Bool

@@ -1,7 +1,7 @@
 ghost use Rattle.std.specs.Prelude.{◌≡◌};
-ghost use Rattle.qm_frame.specs.States.{judged, IsWithin};
+ghost use Rattle.qm_frame.specs.States.{judged, is_run, IsWithin};
 
-use crate::piece::{LastPiece, depth_after, is_broken, next};
+use crate::piece::{LastPiece, depth_after, is_broken, is_plain, next};
 use crate::step::{FrameFault, MAX_DEPTH, MAX_LENGTH};
 
 /// What is known of an open text.
@@ -9,7 +9,6 @@ use crate::step::{FrameFault, MAX_DEPTH, MAX_LENGTH};
 pub struct State {
     pub last: LastPiece,
     pub depth: usize,
-    pub length: usize,
 }
 
 /// What one more byte makes of an open text.
@@ -19,14 +18,25 @@ pub enum Judged {
     Wrong(FrameFault),
 }
 
-/// What one more byte makes of an open text of which this is known.
-pub fn judge(state: State, byte: u8) -> Judged
+/// Whether an open text of so many bytes ends in an unclosed string that the byte lengthens.
+pub fn lengthens(last: LastPiece, length: usize, byte: u8) -> bool
+    ensures { result ≡ is_run last length byte }
+{
+    match last {
+        LastPiece::Str(quote) => length < MAX_LENGTH && is_plain(quote, byte),
+        LastPiece::Whole | LastPiece::Number | LastPiece::Word => false,
+        LastPiece::Escape(_) | LastPiece::Broken => false,
+    }
+}
+
+/// What one more byte makes of an open text of so many bytes, of which this is known.
+pub fn judge(state: State, length: usize, byte: u8) -> Judged
     requires { IsWithin state }
-    ensures { result ≡ judged state byte }
+    ensures { result ≡ judged state length byte }
 {
     let last = next(state.last, byte);
     let depth = depth_after(state.last, state.depth, byte);
-    if state.length == MAX_LENGTH {
+    if length == MAX_LENGTH {
         Judged::Wrong(FrameFault::TooLong)
     } else if is_broken(last) {
         Judged::Wrong(FrameFault::LexError)
@@ -35,10 +45,6 @@ pub fn judge(state: State, byte: u8) -> Judged
     } else if depth == 0 {
         Judged::Ends
     } else {
-        Judged::Taken(State {
-            last,
-            depth,
-            length: state.length + 1,
-        })
+        Judged::Taken(State { last, depth })
     }
 }

@@ -1,10 +1,10 @@
-ghost use Rattle.std.specs.Prelude.{◌≡◌, ◌≤◌, ◌<◌, true, [], ◌∷◌, ◌++◌, IfOk, vec_len, vec_capacity};
+ghost use Rattle.std.specs.Prelude.{◌≡◌, ◌≤◌, ◌<◌, true, [], ◌∷◌, ◌++◌, length, IfOk, vec_len, vec_capacity};
 ghost use Rattle.qm_frame.specs.Bytes.{is_opener as opener};
 ghost use Rattle.qm_frame.specs.Framing.{Inside};
 ghost use Rattle.qm_frame.specs.Steps.{step, stepped, split_by};
 ghost use Rattle.qm_frame.specs.Messages.{is_open};
 
-use crate::judging::{Judged, State, judge};
+use crate::judging::{Judged, State, judge, lengthens};
 use crate::piece::LastPiece;
 use crate::step::{MAX_LENGTH, Step};
 use qm_base::NoMemory;
@@ -15,7 +15,6 @@ use std::marker::Model;
 const START: State = State {
     last: LastPiece::Whole,
     depth: 1,
-    length: 1,
 };
 
 fn keep(bytes: &mut Vec<u8>, byte: u8)
@@ -66,6 +65,12 @@ impl OpenText {
         self.bytes.as_slice()
     }
 
+    fn len(&self) -> usize
+        ensures { result ≡ length self.now }
+    {
+        self.bytes.len()
+    }
+
     /// Begins a message.
     #[tactic(auto, using(crate::proofs::Texts::opener_open))]
     pub fn begin(&mut self, byte: u8)
@@ -85,7 +90,12 @@ impl OpenText {
             stepped result (split_by result byte self.new) }
         ensures open { result ≡ Step.More → is_open self.new ≡ true }
     {
-        match judge(self.state, byte) {
+        let length = self.len();
+        if lengthens(self.state.last, length, byte) {
+            keep(&mut self.bytes, byte);
+            return Step::More;
+        }
+        match judge(self.state, length, byte) {
             Judged::Taken(state) => {
                 keep(&mut self.bytes, byte);
                 self.state = state;

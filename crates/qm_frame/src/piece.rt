@@ -1,6 +1,6 @@
 ghost use Rattle.std.specs.Prelude.{◌≡◌, ◌≤◌};
 ghost use Rattle.qm_frame.specs.Pieces.{is_broken as broken};
-ghost use Rattle.qm_frame.specs.Moves.{begun, moved, hides as hiding, depth_after as depth_of};
+ghost use Rattle.qm_frame.specs.Moves.{begun, moved, is_plain as plain, hides as hiding, depth_after as depth_of};
 
 use crate::bytes::{
     begins_number, in_number, is_barred, is_closer, is_letter, is_opener, is_quote, is_single,
@@ -52,6 +52,13 @@ fn next_in_string(quote: u8, byte: u8) -> LastPiece
     } else {
         LastPiece::Str(quote)
     }
+}
+
+/// Whether the byte is one more of a string with this quote, and is no backslash.
+pub fn is_plain(quote: u8, byte: u8) -> bool
+    ensures { result ≡ plain quote byte }
+{
+    !is_barred(byte) && byte != quote && byte != b'\\'
 }
 
 /// The piece that a text ends in with one more byte.

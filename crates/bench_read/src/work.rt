@@ -1,0 +1,63 @@
+use crate::load::Load;
+use qm_base::{NoMemory, Text};
+use qm_frame::{Framer, Step};
+use qm_json::Json;
+use qm_read::{JsonFault, read};
+use std::alloc::Global;
+
+/// What is done with the bytes.
+#[derive(Clone, Copy)]
+pub enum Way {
+    /// They are cut into messages.
+    Frame,
+    /// Each message is read too.
+    Read,
+    /// Each value is printed too.
+    Print,
+}
+
+/// The length of a value's text.
+fn printed(alloc: Global, value: &Json) -> Result<usize, NoMemory> {
+    let mut text = Text::new(alloc);
+    value.write_text(&mut text)?;
+    Ok(text.len())
+}
+
+/// What a message counts: 1, if it is a value or is not read, or the length of its printed text.
+fn counted(alloc: Global, way: Way, message: &[u8]) -> Result<usize, NoMemory> {
+    match way {
+        Way::Frame => Ok(1),
+        Way::Read => match read(alloc, message) {
+            Ok(_) => Ok(1),
+            Err(JsonFault::Memory) => Err(NoMemory),
+            Err(_) => Ok(0),
+        },
+        Way::Print => match read(alloc, message) {
+            Ok(value) => printed(alloc, &value),
+            Err(JsonFault::Memory) => Err(NoMemory),
+            Err(_) => Ok(0),
+        },
+    }
+}
+
+/// What the messages of these bytes count together.
+fn pass(alloc: Global, way: Way, framer: &mut Framer, bytes: &[u8]) -> Result<usize, NoMemory> {
+    let mut sum = 0usize;
+    for &byte in bytes {
+        match framer.push(byte) {
+            Step::Frame => sum = sum.wrapping_add(counted(alloc, way, framer.frame())?),
+            Step::More | Step::Bad(_) => {}
+        }
+    }
+    Ok(sum)
+}
+
+/// What the messages of a run count together.
+pub fn run(alloc: Global, way: Way, load: &Load) -> Result<usize, NoMemory> {
+    let mut framer = Framer::new(alloc)?;
+    let mut sum = 0usize;
+    for _ in 0..load.times {
+        sum = sum.wrapping_add(pass(alloc, way, &mut framer, load.block.as_slice())?);
+    }
+    Ok(sum)
+}
