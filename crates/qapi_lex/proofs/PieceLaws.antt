@@ -37,7 +37,7 @@ pub next_piece : (whole : Result (List Token) LexFault) (text bytes : List ℕ) 
 next_piece whole text bytes ts new i more s next p b h e m n t w =
     let count : more + 1 ≡ suc (more_in p) = omega (arith, m) in
     let left : drop (i + (more + 1)) text ≡ drop (suc (more_in p)) bytes =
-        ap (λ (k : ℕ). drop (i + k) text) count ∙ ap (λ (k : ℕ). drop k text) (omega arith) ∙ sym (drop-drop (suc (more_in p)) i text) ∙ ap (λ (l : List ℕ). drop (suc (more_in p)) l) (sym b) in
+    ap (λ (k : ℕ). drop (i + k) text) count ∙ ap (λ (k : ℕ). drop k text) (omega arith) ∙ sym (drop-drop (suc (more_in p)) i text) ∙ ap (λ (l : List ℕ). drop (suc (more_in p)) l) (sym b) in
     ap (λ (l : List Token). followed_by l (tokens_after 0 next (drop (i + (more + 1)) text))) t
     ∙ sym (followed_by-twice ts (tokens_in p s) (tokens_after 0 next (drop (i + (more + 1)) text)))
     ∙ ap (λ (q : Spot). followed_by ts (followed_by (tokens_in p s) (tokens_after 0 q (drop (i + (more + 1)) text)))) (n ∙ ap (λ (k : ℕ). after_bytes s (take k bytes)) count)

@@ -25,12 +25,7 @@ fn is_space(byte: u8) -> bool
 fn is_mark(byte: u8) -> bool
     ensures { result ≡ mark byte }
 {
-    byte == b'{'
-        || byte == b'}'
-        || byte == b'['
-        || byte == b']'
-        || byte == b':'
-        || byte == b','
+    byte == b'{' || byte == b'}' || byte == b'[' || byte == b']' || byte == b':' || byte == b','
 }
 
 fn line_end(bytes: &[u8]) -> Option<usize>
