@@ -2,7 +2,7 @@
 use Rattle.std.proofs.Common.{◌≡◌, ◌≢◌, ℕ, Bool, true, false, cond, ◌==◌, zero, suc, List, [], ◌∷◌, Result, Ok, Err, IfErr, codes, nat_eq}
 use Rattle.std.specs.List.{starts_with}
 use Rattle.qapi_lex.specs.declared.fault.LexFault.{LexFault}
-use Rattle.qapi_lex.specs.declared.fault.LexFault.TheVariants.{BadByte, BadEscape, Unclosed, Memory}
+use Rattle.qapi_lex.specs.declared.fault.LexFault.TheVariants.{BadByte, Memory}
 use Rattle.qapi_lex.specs.declared.piece.Piece.{Piece}
 use Rattle.qapi_lex.specs.declared.piece.Piece.TheVariants.{Blank, Whole}
 use Rattle.qapi_lex.specs.declared.quoted.Quoted.{Quoted}

@@ -1,79 +1,58 @@
 //! Texts and their tokens with places, and texts with a first fault.
 
-use crate::{LexFault, TokenKind, TokenList, lex};
+use crate::{LexFault, TokenKind, lex};
 use std::process::Abort;
 use std::test::Fail;
 
-/// A line, a column and how the token is written.
-type Row = (u32, u32, &'static str);
-
-/// Whether the token is the one written so.
-fn is_written(kind: &TokenKind, written: &str) -> bool {
-    match kind {
-        TokenKind::Mark(byte) => written.as_bytes() == [*byte].as_slice(),
-        TokenKind::Flag(true) => written == "true",
-        TokenKind::Flag(false) => written == "false",
-        TokenKind::Str(text) => match written.as_bytes() {
-            [b'=', rest @ ..] => text.as_slice() == rest,
-            _ => false,
-        },
-    }
-}
-
-fn is_row(tokens: &TokenList, at: usize, row: Row) -> bool {
-    let (line, column, written) = row;
-    match tokens.as_slice().get(at) {
-        Some(token) => {
-            token.line == line && token.column == column && is_written(&token.kind, written)
+/// A line for each token of the text: its line, its column, and how it is written, a string after
+/// `=` as what it stands for.
+fn written(rt: &impl AllocGlobal, text: &[u8]) -> Result<Vec<u8>, Fail> {
+    let tokens = lex(rt.alloc(), text)?;
+    let mut lines = Vec::new(rt.alloc());
+    for token in tokens.as_slice() {
+        let place = format!(in rt.alloc(); "{}:{} ", token.line, token.column)?;
+        lines.extend_from_slice(place.as_bytes())?;
+        match &token.kind {
+            TokenKind::Mark(byte) => lines.push(*byte)?,
+            TokenKind::Flag(true) => lines.extend_from_slice(b"true")?,
+            TokenKind::Flag(false) => lines.extend_from_slice(b"false")?,
+            TokenKind::Str(text) => {
+                lines.push(b'=')?;
+                lines.extend_from_slice(text.as_slice())?;
+            }
         }
-        None => false,
+        lines.push(b'\n')?;
     }
+    Ok(lines)
 }
 
 #[test]
 fn tokens_have_their_places(rt: HostRuntime) -> Result<(), Fail> {
-    let cases: [(&[u8], &[Row]); 14] = [
-        (b"", &[]),
-        (b" \t\r\n", &[]),
-        (b"# a comment alone", &[]),
-        (b"#\xFF\x80\x00 'x' {\n", &[]),
-        (b"# one\r\n# two\r\n:", &[(3, 1, ":")]),
+    let cases: [(&[u8], &str); 14] = [
+        (b"", ""),
+        (b" \t\r\n", ""),
+        (b"# a comment alone", ""),
+        (b"#\xFF\x80\x00 'x' {\n", ""),
+        (b"# one\r\n# two\r\n:", "3:1 :\n"),
         (
             b"{ } [ ] : ,",
-            &[
-                (1, 1, "{"),
-                (1, 3, "}"),
-                (1, 5, "["),
-                (1, 7, "]"),
-                (1, 9, ":"),
-                (1, 11, ","),
-            ],
+            "1:1 {\n1:3 }\n1:5 [\n1:7 ]\n1:9 :\n1:11 ,\n",
         ),
-        (b"true", &[(1, 1, "true")]),
-        (b"\n  false\n", &[(2, 3, "false")]),
-        (b"truefalse", &[(1, 1, "true"), (1, 5, "false")]),
-        (b"''", &[(1, 1, "=")]),
-        (b"'a\\\\b'", &[(1, 1, "=a\\b")]),
-        (b"' ~\"#{'", &[(1, 1, "= ~\"#{")]),
-        (b"'\\\\''x'", &[(1, 1, "=\\"), (1, 5, "=x")]),
+        (b"true", "1:1 true\n"),
+        (b"\n  false\n", "2:3 false\n"),
+        (b"truefalse", "1:1 true\n1:5 false\n"),
+        (b"''", "1:1 =\n"),
+        (b"'a\\\\b'", "1:1 =a\\b\n"),
+        (b"' ~\"#{'", "1:1 = ~\"#{\n"),
+        (b"'\\\\''x'", "1:1 =\\\n1:5 =x\n"),
         (
             b"{ 'if':\r\n\t'A' } # end\n,",
-            &[
-                (1, 1, "{"),
-                (1, 3, "=if"),
-                (1, 7, ":"),
-                (2, 2, "=A"),
-                (2, 6, "}"),
-                (3, 1, ","),
-            ],
+            "1:1 {\n1:3 =if\n1:7 :\n2:2 =A\n2:6 }\n3:1 ,\n",
         ),
     ];
-    for (text, rows) in cases {
-        let tokens = lex(rt.alloc(), text)?;
-        assert_eq!(rt; tokens.as_slice().len(), rows.len());
-        for (at, row) in rows.iter().enumerate() {
-            assert!(rt; is_row(&tokens, at, *row));
-        }
+    for (text, lines) in cases {
+        let found = written(&rt, text)?;
+        assert_eq!(rt; found.as_slice(), lines.as_bytes());
     }
     Ok(())
 }
