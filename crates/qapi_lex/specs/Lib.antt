@@ -1,0 +1,4 @@
+pub mod Pieces
+pub mod Spots
+pub mod Strings
+pub mod Tokens
