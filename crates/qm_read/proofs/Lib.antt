@@ -4,10 +4,12 @@ pub mod CleanTexts
 pub mod CleanTokens
 pub mod CleanValues
 pub mod FaultLaws
+pub mod Feeds
 pub mod FirstFaults
 pub mod Fresh
 pub mod Holds
 pub mod LexemeLaws
+pub mod Lexing
 pub mod LiteralLemmas
 pub mod NameLemmas
 pub mod Nested

@@ -1,11 +1,12 @@
 -- Bytes of a string that stand for themselves.
-use Rattle.std.proofs.Common.{◌≡◌, ℕ, ◌+◌, ◌<◌, ◌==◌, Bool, true, false, cond, suc, List, [], ◌∷◌, take, drop, length, get_or, min, Some, None, Result, Ok, refl, ap, sym, ◌∙◌, arith, drop-cons}
+use Rattle.std.proofs.Common.{◌≡◌, ℕ, ◌+◌, ◌<◌, ◌≤◌, ◌==◌, Bool, true, false, cond, suc, List, [], ◌∷◌, ◌++◌, take, drop, length, get_or, min, Some, None, Result, Ok, refl, ap, sym, ◌∙◌, arith, drop-cons}
 use Rattle.std.specs.List.{prefix_len}
 use Rattle.std.proofs.lemmas.Bool.Decides.{nat_tests}
 use Rattle.qm_read.specs.declared.fault.JsonFault.{JsonFault}
 use Rattle.qm_read.specs.declared.strings.Part.{Part}
 use Rattle.qm_read.specs.declared.token.Lexeme.{Lexeme}
 use Rattle.qm_read.specs.declared.token.Token.TheVariants as tokens
+use Rattle.qm_read.specs.Decoding.{Decodes}
 use Rattle.qm_read.specs.Escapes.{escape}
 use Rattle.qm_read.specs.Lexemes.{string_length, string_lexeme}
 use Rattle.qm_read.specs.Spans.{is_plain}
@@ -50,6 +51,16 @@ plain_front q p (x ∷ xs) = at_test (is_plain q x) refl (plain_front q (p + 1) 
         rw (← place, one_more n) (first_plain q p x xs e
         ∙ ap (followed_by (x ∷ [])) inner
         ∙ followed_by-twice (x ∷ []) (take n xs) (text_after 0 (p + 1 + n) (drop n xs)))
+
+-- such bytes were appended
+pub plain_taken : (q : ℕ) (old new bytes : List ℕ) (place n : ℕ) → n ≡ prefix_len (is_plain q) bytes → 0 < n → n ≤ length bytes → new ≡ old ++ take n bytes → Decodes old place bytes (Ok n) new
+plain_taken q old new bytes place n e some within m = (
+  some,
+  within,
+  ap (followed_by old) (plain_front q place bytes)
+      ∙ followed_by-twice old (take (prefix_len (is_plain q) bytes) bytes) (text_after 0 (place + prefix_len (is_plain q) bytes) (drop (prefix_len (is_plain q) bytes) bytes))
+      ∙ rw (← e, m) refl,
+)
 
 -- such bytes alone
 plain_whole : (q p : ℕ) (xs : List ℕ) → text_after 0 p (take (prefix_len (is_plain q) xs) xs) ≡ Ok (take (prefix_len (is_plain q) xs) xs)

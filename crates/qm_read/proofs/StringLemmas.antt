@@ -1,5 +1,5 @@
 -- What the bytes of a string stand for.
-use Rattle.std.proofs.Common.{◌≡◌, ℕ, ◌+◌, ◌<◌, ◌≤◌, Bool, true, false, cond, ◌&&◌, ◌||◌, ◌==◌, zero, suc, List, [], ◌∷◌, ◌++◌, drop, length, Option, Some, None, Result, Ok, Err, IfOk, refl, ap, sym, ◌∙◌, subst, arith, append_assoc, append-nil, slice_index}
+use Rattle.std.proofs.Common.{◌≡◌, ◌≢◌, ℕ, ◌+◌, ◌-◌, ◌<◌, ◌≤◌, Bool, true, false, cond, ◌&&◌, ◌||◌, ◌==◌, zero, suc, List, [], ◌∷◌, ◌++◌, drop, length, Option, Some, None, Result, Ok, Err, IfOk, refl, ap, sym, ◌∙◌, subst, arith, append_assoc, append-nil, slice_index}
 use Rattle.std.proofs.lemmas.Bool.Decides.{nat_tests}
 use Rattle.std.proofs.lemmas.List.{length-drop, drop-drop}
 use Rattle.std.proofs.Math.ListN.{drop_of_length-le}
@@ -8,9 +8,10 @@ use Rattle.std.proofs.lemmas.Str.Ascii.{IsAscii-cons, IsAscii-nil}
 use Rattle.std.specs.Char.Utf16.{is_high_surrogate, is_low_surrogate, surrogate_pair_char}
 use Rattle.std.specs.Str.{continuation_len, is_utf8}
 use Rattle.qm_read.specs.declared.fault.JsonFault.{JsonFault}
-use Rattle.qm_read.specs.declared.fault.JsonFault.TheVariants.{BadEscape}
+use Rattle.qm_read.specs.declared.fault.JsonFault.TheVariants.{BadEscape, Memory}
 use Rattle.qm_read.specs.declared.strings.Part.{Part}
 use Rattle.qm_read.specs.declared.strings.Part.TheVariants.{Same, Char}
+use Rattle.qm_read.specs.Decoding.{Decodes}
 use Rattle.qm_read.specs.Escapes.{hex_of, unicode_of, pair_of, unicode_escape, escaped_byte, short_escape, escape}
 use Rattle.qm_read.specs.Strings.{character, part, text_in, more_in, followed_by, after_part, text_after}
 
@@ -88,29 +89,43 @@ first_stands (x ∷ rest) place p h e =
     ap (λ (r : Result Part JsonFault). after_part r (x ∷ rest) (λ k. text_after k (place + 1) rest)) e
     ∙ ap (followed_by (text_in p (x ∷ rest))) (passed (more_in p) (place + 1) rest)
 
--- after some text, the part p stands at i of the raw bytes
-pub next_part : (whole : Result (List ℕ) JsonFault) (raw out new bytes : List ℕ) (start i more : ℕ) (p : Part) → bytes ≡ drop i raw → 0 < length bytes → Ok p ≡ part (start + 1 + i) (slice_index bytes 0) (drop 1 bytes) → more ≡ more_in p → new ≡ out ++ text_in p bytes →
-    followed_by out (text_after 0 (start + 1 + i) (drop i raw)) ≡ whole →
-    followed_by new (text_after 0 (start + 1 + (i + 1 + more)) (drop (i + 1 + more) raw)) ≡ whole
-next_part whole raw out new bytes start i more p b h e m n w =
-    let place : start + 1 + (i + 1 + more) ≡ start + 1 + i + 1 + more_in p = omega (arith, m) in
-    let count : i + 1 + more ≡ i + suc (more_in p) = omega (arith, m) in
-    let left : drop (i + 1 + more) raw ≡ drop (suc (more_in p)) bytes = ap (λ (n : ℕ). drop n raw) count ∙ sym (drop-drop (suc (more_in p)) i raw) ∙ ap (λ (l : List ℕ). drop (suc (more_in p)) l) (sym b) in
-    ap (λ (l : List ℕ). followed_by l (text_after 0 (start + 1 + (i + 1 + more)) (drop (i + 1 + more) raw))) n
-    ∙ sym (followed_by-twice out (text_in p bytes) (text_after 0 (start + 1 + (i + 1 + more)) (drop (i + 1 + more) raw)))
-    ∙ ap (λ (n : ℕ). followed_by out (followed_by (text_in p bytes) (text_after 0 n (drop (i + 1 + more) raw)))) place
-    ∙ ap (λ (l : List ℕ). followed_by out (followed_by (text_in p bytes) (text_after 0 (start + 1 + i + 1 + more_in p) l))) left
-    ∙ ap (followed_by out) (sym (first_stands bytes (start + 1 + i) p h (sym e)))
-    ∙ ap (λ (l : List ℕ). followed_by out (text_after 0 (start + 1 + i) l)) b ∙ w
+-- a part at the front was appended
+pub part_taken : (old new bytes : List ℕ) (place more : ℕ) (p : Part) → 0 < length bytes → Ok p ≡ part place (slice_index bytes 0) (drop 1 bytes) → more_in p < length bytes → more ≡ more_in p → new ≡ old ++ text_in p bytes → Decodes old place bytes (Ok (1 + more)) new
+part_taken old new bytes place more p h e fits m n =
+    let count : 1 + more ≡ suc (more_in p) = omega (arith, m) in
+    let next : place + suc (more_in p) ≡ place + 1 + more_in p = omega arith in (
+      omega arith,
+      omega (arith, m, fits),
+      ap (followed_by old) (first_stands bytes place p h (sym e))
+          ∙ followed_by-twice old (text_in p bytes) (text_after 0 (place + 1 + more_in p) (drop (suc (more_in p)) bytes))
+          ∙ rw (n, count, next) refl,
+    )
 
 bad_stands : (bytes : List ℕ) (place : ℕ) (f : JsonFault) → 0 < length bytes → part place (slice_index bytes 0) (drop 1 bytes) ≡ Err f → text_after 0 place bytes ≡ Err f
 bad_stands [] place f h e = absurd (omega (arith, h))
 bad_stands (x ∷ rest) place f h e = ap (λ (r : Result Part JsonFault). after_part r (x ∷ rest) (λ k. text_after k (place + 1) rest)) e
 
-pub bad_part : (whole : Result (List ℕ) JsonFault) (raw out bytes : List ℕ) (start i : ℕ) (f : JsonFault) → bytes ≡ drop i raw → 0 < length bytes → Err f ≡ part (start + 1 + i) (slice_index bytes 0) (drop 1 bytes) →
-    followed_by out (text_after 0 (start + 1 + i) (drop i raw)) ≡ whole → Err f ≡ whole
-bad_part whole raw out bytes start i f b h e w =
-    ap (followed_by out) (sym (bad_stands bytes (start + 1 + i) f h (sym e)) ∙ ap (text_after 0 (start + 1 + i)) b) ∙ w
+-- a part at the front is refused
+pub part_refused : (old bytes : List ℕ) (place : ℕ) (f : JsonFault) → 0 < length bytes → Err f ≡ part place (slice_index bytes 0) (drop 1 bytes) → followed_by old (text_after 0 place bytes) ≡ Err f
+part_refused old bytes place f h e = ap (followed_by old) (bad_stands bytes place f h (sym e))
+
+-- of a string the bytes before a place were taken
+module _ (whole : Result (List ℕ) JsonFault) (raw rest out new : List ℕ) (start i : ℕ) (at : rest ≡ drop i raw) (within : i ≤ length raw) (left : followed_by out (text_after 0 (start + 1 + i) (drop i raw)) ≡ whole) where
+  here : followed_by out (text_after 0 (start + 1 + i) rest) ≡ whole
+  here = ap (λ (l : List ℕ). followed_by out (text_after 0 (start + 1 + i) l)) at ∙ left
+
+  pub taken-within : (n : ℕ) → Decodes out (start + 1 + i) rest (Ok n) new → i + n ≤ length raw
+  taken-within n h = let size : length rest ≡ length raw - i = ap length at ∙ length-drop i raw in let le : n ≤ length rest = h.1 in omega (arith, le, size, within)
+
+  pub taken-left : (n : ℕ) → Decodes out (start + 1 + i) rest (Ok n) new → followed_by new (text_after 0 (start + 1 + (i + n)) (drop (i + n) raw)) ≡ whole
+  taken-left n h =
+      let place : start + 1 + (i + n) ≡ start + 1 + i + n = omega arith in
+      ap (λ (k : ℕ). followed_by new (text_after 0 k (drop (i + n) raw))) place
+      ∙ ap (λ (l : List ℕ). followed_by new (text_after 0 (start + 1 + i + n) l)) (sym (drop-drop n i raw) ∙ ap (drop n) (sym at))
+      ∙ sym h.2 ∙ here
+
+  pub refused_there : (f : JsonFault) → f ≢ Memory → Decodes out (start + 1 + i) rest (Err f) new → Err f ≡ whole
+  refused_there f known h = sym (h known) ∙ here
 
 -- all parts were taken
 pub all_parts : (whole : Result (List ℕ) JsonFault) (raw out : List ℕ) (place i : ℕ) → length raw ≤ i → followed_by out (text_after 0 place (drop i raw)) ≡ whole → Ok out ≡ whole

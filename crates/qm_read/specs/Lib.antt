@@ -1,4 +1,5 @@
 pub mod Bytes
+pub mod Decoding
 pub mod Escapes
 pub mod Faults
 pub mod Feeding

@@ -83,13 +83,13 @@ pub fn string_token(
 }
 
 /// Whether the byte ends a string of the quote.
-fn ends_string(quote: u8, taken: bool, byte: u8) -> bool
+pub fn ends_string(quote: u8, taken: bool, byte: u8) -> bool
     ensures { result ≡ string_end quote taken byte }
 {
     byte < 0x20 || (!taken && byte == quote)
 }
 
-fn takes_next(taken: bool, byte: u8) -> bool
+pub fn takes_next(taken: bool, byte: u8) -> bool
     ensures { result ≡ next_taken taken byte }
 {
     !taken && byte == b'\\'

@@ -3,9 +3,11 @@ ghost use Rattle.std.specs.Char.{digit_value as value_of_digit, InScalarRange};
 ghost use Rattle.std.specs.Char.Utf16.{is_high_surrogate as is_high, is_low_surrogate as is_low};
 ghost use Rattle.std.specs.Str.{continuation_len as continuation, is_utf8 as utf8};
 ghost use Rattle.qm_read.specs.Escapes.{is_hex as of_hex, hex_of as hex, unicode_of as unicode, pair_of as pair, unicode_escape as unicode_part, escaped_byte as byte_of, escape as escape_part};
+ghost use Rattle.qm_read.specs.Decoding.{Decodes};
 ghost use Rattle.qm_read.specs.Strings.{character as character_part, part as part_of, text_in, more_in, text_of as text};
 
 use crate::JsonFault;
+use crate::spans::{Span, span_length};
 use qm_base::{NoMemory, Text};
 use std::alloc::Global;
 
@@ -270,6 +272,28 @@ fn length_after_first(part: Part) -> usize
     }
 }
 
+/// Appends what the first of these bytes stand for, and answers how many they are: bytes that stand
+/// for themselves are taken as a run, any other part alone.
+fn take_part(text: &mut Text, bytes: &[u8], place: u64) -> Result<usize, JsonFault>
+    requires { 0 < length bytes.now }
+    ensures { Decodes text.old place bytes.now result text.new }
+{
+    let count = span_length(Span::Plain(b'\\'), bytes);
+    if count > 0 {
+        return match text.extend(&bytes[..count]) {
+            Ok(()) => Ok(count),
+            Err(NoMemory) => Err(JsonFault::Memory),
+        };
+    }
+    match first_part(bytes, place) {
+        Ok(part) => match append(text, bytes, part) {
+            Ok(()) => Ok(1 + length_after_first(part)),
+            Err(NoMemory) => Err(JsonFault::Memory),
+        },
+        Err(fault) => Err(fault),
+    }
+}
+
 /// What the bytes of a string stand for, whose quote stands at the start.
 pub fn text_of(alloc: Global, raw: &[u8], start: u64) -> Result<Text, JsonFault>
     requires { start + 1 + length raw.now < 2 ^ 64 }
@@ -279,11 +303,8 @@ pub fn text_of(alloc: Global, raw: &[u8], start: u64) -> Result<Text, JsonFault>
     let mut i = 0;
     while i < raw.len() {
         let rest = past(raw, i);
-        match first_part(rest, start + 1 + i as u64) {
-            Ok(part) => match append(&mut out, rest, part) {
-                Ok(()) => i = i + 1 + length_after_first(part),
-                Err(NoMemory) => return Err(JsonFault::Memory),
-            },
+        match take_part(&mut out, rest, start + 1 + i as u64) {
+            Ok(count) => i += count,
             Err(fault) => return Err(fault),
         }
     }

@@ -1,14 +1,18 @@
 //! Texts with their values or first faults; the pair of surrogates is that of RFC 8259, section 7.
 
+mod bytewise;
+
 use crate::{JsonFault, Taken, read};
+use bytewise::read_bytewise;
 use qm_frame::MAX_DEPTH;
+use qm_json::Json;
 use std::process::Abort;
 use std::test::Fail;
 
 /// The printed value of a text, or its first fault.
-fn outcome(rt: &impl AllocGlobal, text: &[u8]) -> Result<Vec<u8>, Fail> {
+fn printed(rt: &impl AllocGlobal, answer: Result<Json, JsonFault>) -> Result<Vec<u8>, Fail> {
     let mut out = qm_base::Text::new(rt.alloc());
-    match read(rt.alloc(), text) {
+    match answer {
         Ok(value) => value.write_text(&mut out)?,
         Err(fault) => out.extend(format!(in rt.alloc(); "{fault:?}")?.as_bytes())?,
     }
@@ -16,13 +20,16 @@ fn outcome(rt: &impl AllocGlobal, text: &[u8]) -> Result<Vec<u8>, Fail> {
 }
 
 fn expect(rt: &(impl Abort + AllocGlobal), text: &[u8], told: &str) -> Result<(), Fail> {
-    assert_eq!(rt; outcome(rt, text)?.as_slice(), told.as_bytes(), "{told}");
+    let fast = printed(rt, read(rt.alloc(), text))?;
+    let slow = printed(rt, read_bytewise(rt.alloc(), text))?;
+    assert_eq!(rt; fast.as_slice(), told.as_bytes(), "{told}");
+    assert_eq!(rt; slow.as_slice(), told.as_bytes(), "{told}");
     Ok(())
 }
 
 #[test]
 fn values_are_read(rt: HostRuntime) -> Result<(), Fail> {
-    let cases: [(&[u8], &str); 20] = [
+    let cases: [(&[u8], &str); 22] = [
         (
             b"{\"execute\":\"query-version\"}",
             "{\"execute\": \"query-version\"}",
@@ -55,6 +62,14 @@ fn values_are_read(rt: HostRuntime) -> Result<(), Fail> {
         (b"\"\"", "\"\""),
         (b"{\"\":1,\" \":2}", "{\"\": 1, \" \": 2}"),
         (b"\"\x7F\"", "\"\\u007F\""),
+        (
+            b"{'a':0,'b':0,'c':0,'d':0,'e':0,'f':0,'g':0,'h':0,'i':0,'j':{'a':0}}",
+            "{\"a\": 0, \"b\": 0, \"c\": 0, \"d\": 0, \"e\": 0, \"f\": 0, \"g\": 0, \"h\": 0, \"i\": 0, \"j\": {\"a\": 0}}",
+        ),
+        (
+            "'one\\ttwo \u{E9}\"three'".as_bytes(),
+            "\"one\\ttwo \\u00E9\\\"three\"",
+        ),
     ];
     for (text, told) in cases {
         expect(&rt, text, told)?;
@@ -64,7 +79,7 @@ fn values_are_read(rt: HostRuntime) -> Result<(), Fail> {
 
 #[test]
 fn syntax_faults_have_their_places(rt: HostRuntime) -> Result<(), Fail> {
-    let cases: [(&[u8], &str); 24] = [
+    let cases: [(&[u8], &str); 26] = [
         (b"", "Expected(0)"),
         (b" ", "Expected(1)"),
         (b"{]", "Expected(1)"),
@@ -89,6 +104,14 @@ fn syntax_faults_have_their_places(rt: HostRuntime) -> Result<(), Fail> {
         (b"[\"a\tb\"]", "Expected(3)"),
         (b"[\"a", "Expected(3)"),
         (b"{\"a\":1,\"\\u0061\":2}", "Duplicate(7)"),
+        (
+            b"{'a':0,'b':0,'c':0,'d':0,'e':0,'f':0,'g':0,'h':0,'i':0,'j':0,'c':0}",
+            "Duplicate(61)",
+        ),
+        (
+            b"{'a':0,'b':0,'c':0,'d':0,'e':0,'f':0,'g':0,'h':0,'i':0,'j':0,'j':0}",
+            "Duplicate(61)",
+        ),
     ];
     for (text, told) in cases {
         expect(&rt, text, told)?;

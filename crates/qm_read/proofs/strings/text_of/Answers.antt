@@ -1,7 +1,6 @@
-use Rattle.std.proofs.Common.{◌≡◌, ℕ, ◌+◌, ◌-◌, ◌<◌, ◌∙◌, length, List, ap, arith}
-use Rattle.std.proofs.lemmas.List.{length-drop}
+use Rattle.std.proofs.Common.{ℕ, ◌+◌, ◌∙◌, List, ap, arith}
 use Rattle.qm_read.specs.Strings.{text_after, text_of, followed_by}
-use Rattle.qm_read.proofs.StringLemmas.{next_part, no_parts}
+use Rattle.qm_read.proofs.StringLemmas.{taken-within, taken-left, refused_there, no_parts}
 use Rattle.qm_read.proofs.strings.text_of.Goals as goal
 
 pub loop-i-init : goal.loop-i-init
@@ -14,10 +13,7 @@ loop-i-init c = record {
 }
 
 pub loop-i-preserved : goal.loop-i-preserved
-loop-i-preserved c =
-    let left : length c.past-rest.result.now ≡ length c.args.raw.now - c.loop-i.i = ap length c.past-rest.ensures ∙ length-drop c.loop-i.i c.args.raw.now in
-    let some : 0 < length c.past-rest.result.now = omega arith in
-    record {
-      within = omega (arith, c.in-Ok.ensures.within, c.length_after_first.ensures);
-      decoded = next_part _ c.args.raw.now c.loop-i.out c.append.new.text c.past-rest.result.now c.args.start c.loop-i.i c.length_after_first.result c.in-Ok.part c.past-rest.ensures some c.in-Ok.ensures.value c.length_after_first.ensures c.in-Ok-append.ensures c.loop-i.invariant.decoded;
-    }
+loop-i-preserved c = record {
+  within = taken-within (text_of c.args.start c.args.raw.now) c.args.raw.now c.past-rest.result.now c.loop-i.out c.take_part.new.text c.args.start c.loop-i.i c.past-rest.ensures c.loop-i.invariant.within c.loop-i.invariant.decoded c.in-Ok.count c.in-Ok.ensures;
+  decoded = taken-left (text_of c.args.start c.args.raw.now) c.args.raw.now c.past-rest.result.now c.loop-i.out c.take_part.new.text c.args.start c.loop-i.i c.past-rest.ensures c.loop-i.invariant.within c.loop-i.invariant.decoded c.in-Ok.count c.in-Ok.ensures;
+}
