@@ -13,4 +13,6 @@ pub use framer::Framer;
 pub use step::{FrameFault, MAX_DEPTH, MAX_LENGTH, Step};
 
 #[cfg(test)]
+mod searching;
+#[cfg(test)]
 mod tests;

@@ -1,10 +1,12 @@
 //! Streams of bytes, the frames that they have, and where reading goes on after a fault.
 
+use crate::searching::searched;
 use crate::{FrameFault, Framer, MAX_DEPTH, MAX_LENGTH, Step};
 use std::process::Abort;
 use std::test::Fail;
 
-fn name_of(fault: FrameFault) -> &'static str {
+/// The name of a fault in a line.
+pub fn name_of(fault: FrameFault) -> &'static str {
     match fault {
         FrameFault::LexError => "lex error",
         FrameFault::Unbalanced => "unbalanced",
@@ -35,7 +37,7 @@ fn frames(rt: &impl AllocGlobal, bytes: &[u8]) -> Result<Vec<u8>, Fail> {
 
 #[test]
 fn streams_have_their_frames(rt: HostRuntime) -> Result<(), Fail> {
-    let cases: [(&[u8], &str); 18] = [
+    let cases: [(&[u8], &str); 19] = [
         (b"", ""),
         (b" \t\r\n", ""),
         (b"{} [1]", "{}\n[1]\n"),
@@ -46,9 +48,10 @@ fn streams_have_their_frames(rt: HostRuntime) -> Result<(), Fail> {
         (b"{\"a\\\n{}", "lex error\n{}\n"),
         (b"[T]\n{}", "lex error\n{}\n"),
         (b"{\"execute\":\"quit\"", ""),
+        (b"{\"a\n{}", "lex error\n{}\n"),
         (
-            b"{ \"exec\xFF{\"execute\":1}",
-            "lex error\n{\"execute\":1}\n",
+            b"{ \"exec\xFF{\"execute\":\"qmp_capabilities\"}\n",
+            "lex error\n{\"execute\":\"qmp_capabilities\"}\n",
         ),
         (b"[1E]", "[1E]\n"),
         (b"[E]\n", "lex error\n"),
@@ -60,6 +63,36 @@ fn streams_have_their_frames(rt: HostRuntime) -> Result<(), Fail> {
     ];
     for (bytes, lines) in cases {
         assert_eq!(rt; frames(&rt, bytes)?.as_slice(), lines.as_bytes(), "{lines}");
+        assert_eq!(rt;
+            searched(&rt, bytes)?.as_slice(),
+            lines.as_bytes(),
+            "{lines}"
+        );
+    }
+    Ok(())
+}
+
+#[test]
+fn the_search_finds_the_same_frames(rt: HostRuntime) -> Result<(), Fail> {
+    let streams: [&[u8]; 12] = [
+        b"[1,-2.5e+3,true,null]\n{'a':[{}],\"b\":\"\\u0041\"}[]",
+        b"[1,+2]\n[2]",
+        b"[1+,2E-]{}",
+        b"[nullnull1true]\x00[]",
+        b"[1a2b]{}",
+        b"[\"\\\\\"][\"\\\"\"]",
+        b"['\\'][']",
+        b"{[}][{]}",
+        b"[\t\r\n ]\t[\x0B][]",
+        b"nul{}\n{}x}\n]",
+        b"[\"\xC3\xA9\x7F\"][\xC3]\n{}",
+        b"[1:2,,3}\xFE\xFF[",
+    ];
+    for bytes in streams {
+        assert_eq!(rt;
+            frames(&rt, bytes)?.as_slice(),
+            searched(&rt, bytes)?.as_slice()
+        );
     }
     Ok(())
 }
@@ -106,5 +139,28 @@ fn length_has_a_limit(rt: HostRuntime) -> Result<(), Fail> {
         answer_to_blanks(&rt, 1_048_575)?,
         (Step::Bad(FrameFault::TooLong), 0)
     );
+    Ok(())
+}
+
+/// A request to query the version under an id of so many letters, and then `{}`.
+fn with_id(rt: &impl AllocGlobal, letters: usize) -> Result<Vec<u8>, Fail> {
+    let mut stream = Vec::new(rt.alloc());
+    stream.extend_from_slice(b"{\"execute\":\"query-version\",\"id\":\"")?;
+    for _ in 0..letters {
+        stream.push(b'a')?;
+    }
+    stream.extend_from_slice(b"\"}\n{}")?;
+    Ok(stream)
+}
+
+#[test]
+fn requests_have_a_limit(rt: HostRuntime) -> Result<(), Fail> {
+    let mut longest = with_id(&rt, 1_048_541)?;
+    assert_eq!(rt; longest.len(), 1_048_579);
+    let mut lines = frames(&rt, longest.as_slice())?;
+    longest.push(b'\n')?;
+    assert!(rt; lines.as_slice() == longest.as_slice());
+    lines = frames(&rt, with_id(&rt, 1_048_542)?.as_slice())?;
+    assert_eq!(rt; lines.as_slice(), b"too long\n{}\n".as_slice());
     Ok(())
 }

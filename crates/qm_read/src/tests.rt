@@ -4,7 +4,7 @@ mod bytewise;
 
 use crate::{JsonFault, Taken, read};
 use bytewise::read_bytewise;
-use qm_frame::MAX_DEPTH;
+use qm_frame::{MAX_DEPTH, MAX_LENGTH};
 use qm_json::Json;
 use std::process::Abort;
 use std::test::Fail;
@@ -29,7 +29,7 @@ fn expect(rt: &(impl Abort + AllocGlobal), text: &[u8], told: &str) -> Result<()
 
 #[test]
 fn values_are_read(rt: HostRuntime) -> Result<(), Fail> {
-    let cases: [(&[u8], &str); 22] = [
+    let cases: [(&[u8], &str); 23] = [
         (
             b"{\"execute\":\"query-version\"}",
             "{\"execute\": \"query-version\"}",
@@ -41,6 +41,10 @@ fn values_are_read(rt: HostRuntime) -> Result<(), Fail> {
         (b" \t\r\n[ ] \n", "[]"),
         (b"[null,true , false]", "[null, true, false]"),
         (b"{\"a\":{\"b\":[{}]}}", "{\"a\": {\"b\": [{}]}}"),
+        (
+            b"{\"execute\":\"nope\",\"id\":{\"a\":[1.50]}}",
+            "{\"execute\": \"nope\", \"id\": {\"a\": [1.50]}}",
+        ),
         (b"1.50", "1.50"),
         (b"[-0, 0, -7, 1e2, -0.0]", "[0, 0, -7, 1e2, -0.0]"),
         (b"-9223372036854775808", "-9223372036854775808"),
@@ -79,7 +83,7 @@ fn values_are_read(rt: HostRuntime) -> Result<(), Fail> {
 
 #[test]
 fn syntax_faults_have_their_places(rt: HostRuntime) -> Result<(), Fail> {
-    let cases: [(&[u8], &str); 26] = [
+    let cases: [(&[u8], &str); 27] = [
         (b"", "Expected(0)"),
         (b" ", "Expected(1)"),
         (b"{]", "Expected(1)"),
@@ -103,6 +107,7 @@ fn syntax_faults_have_their_places(rt: HostRuntime) -> Result<(), Fail> {
         (b"[+1]", "Expected(1)"),
         (b"[\"a\tb\"]", "Expected(3)"),
         (b"[\"a", "Expected(3)"),
+        (b"{\"a\":1,\"a\":2}", "Duplicate(7)"),
         (b"{\"a\":1,\"\\u0061\":2}", "Duplicate(7)"),
         (
             b"{'a':0,'b':0,'c':0,'d':0,'e':0,'f':0,'g':0,'h':0,'i':0,'j':0,'c':0}",
@@ -166,6 +171,22 @@ fn nesting_has_its_limit(rt: HostRuntime) -> Result<(), Fail> {
     text.insert(0, b'[')?;
     text.push(b']')?;
     expect(&rt, text.as_slice(), "Expected(128)")
+}
+
+#[test]
+fn requests_of_the_greatest_length_are_read(rt: HostRuntime) -> Result<(), Fail> {
+    let mut text = Vec::from_slice(rt.alloc(), b"{\"execute\":\"query-version\",\"id\":\"")?;
+    let mut told = Vec::from_slice(rt.alloc(), b"{\"execute\": \"query-version\", \"id\": \"")?;
+    for _ in 0..1_048_541 {
+        text.push(b'a')?;
+        told.push(b'a')?;
+    }
+    text.extend_from_slice(b"\"}")?;
+    told.extend_from_slice(b"\"}")?;
+    assert_eq!(rt; text.len(), MAX_LENGTH);
+    let read = outcome(&rt, text.as_slice())?;
+    assert!(rt; read.as_slice() == told.as_slice());
+    Ok(())
 }
 
 #[test]
