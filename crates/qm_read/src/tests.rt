@@ -184,8 +184,8 @@ fn requests_of_the_greatest_length_are_read(rt: HostRuntime) -> Result<(), Fail>
     text.extend_from_slice(b"\"}")?;
     told.extend_from_slice(b"\"}")?;
     assert_eq!(rt; text.len(), MAX_LENGTH);
-    let read = outcome(&rt, text.as_slice())?;
-    assert!(rt; read.as_slice() == told.as_slice());
+    let answer = printed(&rt, read(rt.alloc(), text.as_slice()))?;
+    assert!(rt; answer.as_slice() == told.as_slice());
     Ok(())
 }
 
