@@ -122,7 +122,8 @@ fn stop_at(place: u64, quote: u8, rest: &[u8]) -> Option<u64>
 /// The lexeme of any string, by what follows its quote.
 fn any_string(alloc: Global, quote: u8, rest: &[u8], place: u64) -> Result<Lexeme, NoMemory>
     requires { place + 1 + length rest.now < 2 ^ 64 }
-    ensures { IfOk result (λ l. l ≡ string_of place quote rest.now (length_of_string quote false rest.now)) }
+    ensures { IfOk result (λ l.
+        l ≡ string_of place quote rest.now (length_of_string quote false rest.now)) }
 {
     let count = string_length(quote, rest);
     let stop = stop_at(place + 1 + count as u64, quote, &rest[count..]);
@@ -137,7 +138,8 @@ fn any_string(alloc: Global, quote: u8, rest: &[u8], place: u64) -> Result<Lexem
 /// The lexeme of a string. One that stands for its own bytes is copied at once.
 fn string_lexeme(alloc: Global, quote: u8, rest: &[u8], place: u64) -> Result<Lexeme, NoMemory>
     requires { place + 1 + length rest.now < 2 ^ 64 }
-    ensures { IfOk result (λ l. l ≡ string_of place quote rest.now (length_of_string quote false rest.now)) }
+    ensures { IfOk result (λ l.
+        l ≡ string_of place quote rest.now (length_of_string quote false rest.now)) }
 {
     let count = span_length(Span::Plain(quote), rest);
     if count < rest.len() && rest[count] == quote {

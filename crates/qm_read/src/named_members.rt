@@ -83,7 +83,8 @@ fn with_name(
 ) -> Result<Option<Box<NameTable>>, NoMemory>
     requires { AreNamesOf (option_map (λ b. b.value) names) members.now }
     ensures { IfOk result (λ after. (value : Json) →
-        AreNamesOf (option_map (λ b. b.value) after) (members.now ++ record { name = name.now; value = value } ∷ [])) }
+        AreNamesOf (option_map (λ b. b.value) after)
+        (members.now ++ record { name = name.now; value = value } ∷ [])) }
 {
     match table_for(alloc, names, members)? {
         None => Ok(None),

@@ -1,6 +1,6 @@
 use Rattle.std.proofs.Common.{ℕ, ◌+◌, ◌∙◌, List, ap, arith}
 use Rattle.qm_read.specs.Strings.{text_after, text_of, followed_by}
-use Rattle.qm_read.proofs.StringLemmas.{taken-within, taken-left, refused_there, no_parts}
+use Rattle.qm_read.proofs.StringLemmas.{taken-within, taken-left, no_parts}
 use Rattle.qm_read.proofs.strings.text_of.Goals as goal
 
 pub loop-i-init : goal.loop-i-init
