@@ -17,6 +17,25 @@ pub enum Shape {
     Values,
 }
 
+impl Shape {
+    /// The shape of this name.
+    pub fn named(name: &str) -> Option<Shape> {
+        let shapes = [
+            ("large", Shape::Large),
+            ("small", Shape::Small),
+            ("one", Shape::One),
+            ("names", Shape::Names),
+            ("values", Shape::Values),
+        ];
+        for (known, shape) in shapes {
+            if known == name {
+                return Some(shape);
+            }
+        }
+        None
+    }
+}
+
 /// The bytes that a run is over, and how often they are given.
 #[derive(Drop)]
 pub struct Load {
@@ -32,29 +51,22 @@ fn request(block: &mut Text, number: u32) -> Result<(), NoMemory> {
     block.push(b'}')
 }
 
-/// Requests with these bytes between them.
-fn requests(block: &mut Text, count: u32, between: &[u8]) -> Result<(), NoMemory> {
+/// Requests with these bytes between them, and a text round them.
+fn requests(
+    alloc: Global,
+    count: u32,
+    before: &[u8],
+    between: &[u8],
+    after: &[u8],
+) -> Result<Text, NoMemory> {
+    let mut block = Text::of(alloc, before)?;
     for number in 0..count {
         if number > 0 {
             block.extend(between)?;
         }
-        request(block, number)?;
+        request(&mut block, number)?;
     }
-    Ok(())
-}
-
-fn array(alloc: Global) -> Result<Text, NoMemory> {
-    let mut block = Text::new(alloc);
-    block.push(b'[')?;
-    requests(&mut block, 23_809, b", ")?;
-    block.push(b']')?;
-    Ok(block)
-}
-
-fn lines(alloc: Global) -> Result<Text, NoMemory> {
-    let mut block = Text::new(alloc);
-    requests(&mut block, 1000, b"\n")?;
-    block.push(b'\n')?;
+    block.extend(after)?;
     Ok(block)
 }
 
@@ -91,9 +103,9 @@ impl Load {
     /// The bytes of a shape.
     pub fn of(alloc: Global, shape: Shape) -> Result<Load, NoMemory> {
         let (block, times) = match shape {
-            Shape::Large => (array(alloc)?, 20),
-            Shape::Small => (lines(alloc)?, 1000),
-            Shape::One => (array(alloc)?, 1),
+            Shape::Large => (requests(alloc, 23_809, b"[", b", ", b"]")?, 20),
+            Shape::Small => (requests(alloc, 1000, b"", b"\n", b"\n")?, 1000),
+            Shape::One => (requests(alloc, 23_809, b"[", b", ", b"]")?, 1),
             Shape::Names => (names(alloc, b'{', b':', b'}')?, 1),
             Shape::Values => (names(alloc, b'[', b',', b']')?, 1),
         };

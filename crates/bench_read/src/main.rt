@@ -2,62 +2,57 @@
 #![tactic(auto)]
 
 mod load;
-mod words;
 mod work;
 
-use load::Load;
-use qm_base::Text;
+use load::{Load, Shape};
 use std::io::Write;
 use std::process::ExitCode;
 use std::{env, io};
-use words::{Asked, asked_of};
 use work::{Way, run};
 
 const USAGE: &str = "bench_read [frame|read|print|show large|small|one|names|values]";
 
 fn gathered(rt: &HostRuntime) -> io::Result<Vec<String>> {
     let mut words = Vec::new(rt.alloc());
-    let mut is_name = true;
     for word in env::args(rt)? {
-        if !is_name {
-            words.push(word)?;
-        }
-        is_name = false;
+        words.push(word)?;
     }
     Ok(words)
 }
 
-fn show(rt: &HostRuntime, block: &Text) -> io::Result<()> {
-    io::writer(rt).write_all(block.as_slice())
-}
-
-/// Status 1 is for want of memory.
-fn answer(rt: &HostRuntime, asked: Asked) -> io::Result<ExitCode> {
-    let Ok(load) = Load::of(rt.alloc(), asked.shape) else {
+/// Runs one way, or shows the bytes without one. Status 1 is for want of memory.
+fn answer(rt: &HostRuntime, way: Option<Way>, shape: Shape) -> io::Result<ExitCode> {
+    let Ok(load) = Load::of(rt.alloc(), shape) else {
         return Ok(ExitCode::from(1));
     };
-    match asked.way {
-        None => show(rt, &load.block)?,
-        Some(way) => {
-            let Ok(count) = run(rt.alloc(), way, &load) else {
-                return Ok(ExitCode::from(1));
-            };
-            println!(rt; "{count}")?;
-        }
-    }
+    let Some(way) = way else {
+        io::writer(rt).write_all(load.block.as_slice())?;
+        return Ok(ExitCode::SUCCESS);
+    };
+    let Ok(count) = run(rt.alloc(), way, &load) else {
+        return Ok(ExitCode::from(1));
+    };
+    println!(rt; "{count}")?;
     Ok(ExitCode::SUCCESS)
+}
+
+fn refused(rt: &HostRuntime) -> io::Result<ExitCode> {
+    eprintln!(rt; "{USAGE}")?;
+    Ok(ExitCode::from(2))
 }
 
 fn main(rt: HostRuntime) -> io::Result<ExitCode> {
     let words = gathered(&rt)?;
-    if words.is_empty() {
-        return Ok(ExitCode::SUCCESS);
-    }
-    match asked_of(words.as_slice()) {
-        Some(asked) => answer(&rt, asked),
-        None => {
-            eprintln!(&rt; "{USAGE}")?;
-            Ok(ExitCode::from(2))
+    match words.as_slice() {
+        [] | [_] => Ok(ExitCode::SUCCESS),
+        [_, way, shape] => {
+            let way = way.as_str();
+            match (Way::of(way), Shape::named(shape.as_str())) {
+                (None, Some(shape)) if way == "show" => answer(&rt, None, shape),
+                (Some(way), Some(shape)) => answer(&rt, Some(way), shape),
+                _ => refused(&rt),
+            }
         }
+        _ => refused(&rt),
     }
 }

@@ -16,6 +16,23 @@ pub enum Way {
     Print,
 }
 
+impl Way {
+    /// The way of this name.
+    pub fn of(name: &str) -> Option<Way> {
+        let ways = [
+            ("frame", Way::Frame),
+            ("read", Way::Read),
+            ("print", Way::Print),
+        ];
+        for (known, way) in ways {
+            if known == name {
+                return Some(way);
+            }
+        }
+        None
+    }
+}
+
 /// The length of a value's text.
 fn printed(alloc: Global, value: &Json) -> Result<usize, NoMemory> {
     let mut text = Text::new(alloc);
@@ -25,18 +42,16 @@ fn printed(alloc: Global, value: &Json) -> Result<usize, NoMemory> {
 
 /// What a message counts: 1, if it is a value or is not read, or the length of its printed text.
 fn counted(alloc: Global, way: Way, message: &[u8]) -> Result<usize, NoMemory> {
-    match way {
-        Way::Frame => Ok(1),
-        Way::Read => match read(alloc, message) {
-            Ok(_) => Ok(1),
-            Err(JsonFault::Memory) => Err(NoMemory),
-            Err(_) => Ok(0),
+    if matches!(way, Way::Frame) {
+        return Ok(1);
+    }
+    match read(alloc, message) {
+        Ok(value) => match way {
+            Way::Print => printed(alloc, &value),
+            Way::Frame | Way::Read => Ok(1),
         },
-        Way::Print => match read(alloc, message) {
-            Ok(value) => printed(alloc, &value),
-            Err(JsonFault::Memory) => Err(NoMemory),
-            Err(_) => Ok(0),
-        },
+        Err(JsonFault::Memory) => Err(NoMemory),
+        Err(_) => Ok(0),
     }
 }
 
