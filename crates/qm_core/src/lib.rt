@@ -16,6 +16,7 @@ mod replies;
 pub mod requests;
 mod sessions;
 pub mod verdicts;
+mod words;
 
 pub use entries::{Cause, Entry, StepFault};
 pub use inputs::{BadInput, FrameWord, Input, JsonWord};

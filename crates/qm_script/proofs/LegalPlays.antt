@@ -1,19 +1,17 @@
 -- The journal that a script plays is legal.
-use Rattle.std.proofs.Common.{◌≡◌, ℕ, ◌+◌, ◌==◌, ◌++◌, nat_lt, Bool, true, false, cond, List, [], ◌∷◌, length, Option, Some, None, Result, Ok, Err, IfOk, refl}
+use Rattle.std.proofs.Common.{◌≡◌, ℕ, ◌+◌, ◌==◌, ◌++◌, Bool, true, false, cond, List, [], ◌∷◌, length, Option, Some, None, Result, Ok, Err, IfOk, refl}
 use Rattle.std.specs.List.{slice_get}
 use Rattle.qm_core.specs.Legal.{IsLegal, past_of}
 use Rattle.qm_core.specs.Next.{Shown, refusal_of, entry_of, session_refusal, IsCleanStep}
 use Rattle.qm_core.specs.Next as step
 use Rattle.qm_core.specs.Standing.{sessions_of, admitted_of, running_of, named_of}
-use Rattle.qm_core.specs.declared.entries.Cause.TheVariants as cause
 use Rattle.qm_core.specs.declared.entries.StepFault.{StepFault}
 use Rattle.qm_core.specs.declared.inputs.Input.{Input}
 use Rattle.qm_core.specs.declared.requests.Started.{Started}
 use Rattle.qm_core.proofs.StepLaws.{next_legal}
 use Rattle.qm_script.specs.Fed.{fed_inputs_of}
-use Rattle.qm_script.specs.Orders.{order_of, fed_by}
+use Rattle.qm_script.specs.Orders.{order_of, fed_by, hex_bytes_of, is_skipped}
 use Rattle.qm_script.specs.Playing.{Played, Ended, stepped, core_step, fed_step, fed_to, input_step, admit_step, finish_step, ordered, line_step, after_line, played_from}
-use Rattle.qm_script.specs.declared.TheConstants.{MOST_LINES}
 use Rattle.qm_script.specs.declared.endings.Stop.{Stop}
 use Rattle.qm_script.specs.declared.endings.Stop.TheVariants.{BadLine}
 use Rattle.qm_script.specs.declared.orders.Order.{Order}
@@ -61,15 +59,16 @@ ordered_legal : (entries : ℕ) (played : Played) (line : List ℕ) (order : Opt
 ordered_legal entries played line None legal = tt
 ordered_legal entries played line (Some order.Open) legal = open_legal (length (sessions_of (past_of played.journal)) == 0) entries record { journal = played.journal; fed = played.fed ++ [] ∷ [] } legal
 ordered_legal entries played line (Some (order.Text s)) legal = fed_legal played s (fed_by line ++ 10 ∷ []) (session_refusal s (past_of played.journal) None) legal
+ordered_legal entries played line (Some (order.Feed s)) legal = fed_legal played s (hex_bytes_of (fed_by line)) (session_refusal s (past_of played.journal) None) legal
 ordered_legal entries played line (Some (order.Admit s)) legal = admit_legal entries played s (session_refusal s (past_of played.journal) None) legal
 ordered_legal entries played line (Some order.Start) legal = core_legal entries played step.Start tt legal
 ordered_legal entries played line (Some (order.Finish moment)) legal = finish_legal entries played moment (named_of (running_of (past_of played.journal))) legal
 ordered_legal entries played line (Some (order.Take s)) legal = core_legal entries played (step.Take s) tt legal
 ordered_legal entries played line (Some (order.Eof s)) legal = core_legal entries played (step.End s) tt legal
-ordered_legal entries played line (Some (order.DropEnded s)) legal = core_legal entries played (step.Drop s cause.Ended) tt legal
+ordered_legal entries played line (Some (order.Drop s cause)) legal = core_legal entries played (step.Drop s cause) tt legal
 
-line_legal : (many : Bool) (entries : ℕ) (played : Played) (line : List ℕ) → IsLegal played.journal → GoesOn (cond many (Err BadLine) (ordered entries played line (order_of line)))
-line_legal true entries played line legal = tt
+line_legal : (skipped : Bool) (entries : ℕ) (played : Played) (line : List ℕ) → IsLegal played.journal → GoesOn (cond skipped (Ok played) (ordered entries played line (order_of line)))
+line_legal true entries played line legal = legal
 line_legal false entries played line legal = ordered_legal entries played line (order_of line) legal
 
 after_legal : (n : ℕ) (played : Played) (step : Result Played Stop) (go : Played → Ended) → IsLegal played.journal → GoesOn step →
@@ -80,5 +79,5 @@ after_legal n played (Err stop) go legal goes later = legal
 pub played_legal : (entries n : ℕ) (played : Played) (lines : List (List ℕ)) → IsLegal played.journal → IsLegal (played_from entries n played lines).played.journal
 played_legal entries n played [] legal = legal
 played_legal entries n played (line ∷ lines) legal =
-    after_legal n played (line_step entries n played line) (λ next. played_from entries (n + 1) next lines) legal
-    (line_legal (nat_lt MOST_LINES n) entries played line legal) (λ next later. played_legal entries (n + 1) next lines later)
+    after_legal n played (line_step entries played line) (λ next. played_from entries (n + 1) next lines) legal
+    (line_legal (is_skipped line) entries played line legal) (λ next later. played_legal entries (n + 1) next lines later)

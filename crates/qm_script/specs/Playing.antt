@@ -1,12 +1,11 @@
 -- What a script plays (this project's own rule).
-use Rattle.std.specs.Prelude.{ℕ, ◌+◌, ◌-◌, ◌==◌, nat_lt, cond, List, [], ◌∷◌, ◌++◌, length, slice_get, unwrap_or, Option, Some, None, Result, Ok, Err}
+use Rattle.std.specs.Prelude.{ℕ, ◌+◌, ◌-◌, ◌^◌, ◌==◌, min, cond, List, [], ◌∷◌, ◌++◌, length, slice_get, unwrap_or, Option, Some, None, Result, Ok, Err}
 use Rattle.std.proofs.Math.ListN.{set}
 use Rattle.qm_core.specs.Legal.{past_of}
 use Rattle.qm_core.specs.Next.{refusal_of, entry_of, session_refusal}
 use Rattle.qm_core.specs.Next as step
 use Rattle.qm_core.specs.Standing.{sessions_of, admitted_of, running_of, named_of}
 use Rattle.qm_core.specs.Texts.{text_of}
-use Rattle.qm_core.specs.declared.entries.Cause.TheVariants as cause
 use Rattle.qm_core.specs.declared.entries.Entry.{Entry}
 use Rattle.qm_core.specs.declared.entries.StepFault.{StepFault}
 use Rattle.qm_core.specs.declared.inputs.Input.{Input}
@@ -14,8 +13,7 @@ use Rattle.qm_core.specs.declared.requests.Started.{Started}
 use Rattle.qm_script.specs.Endings.{stop_of, closing_of}
 use Rattle.qm_script.specs.Fed.{fed_inputs_of}
 use Rattle.qm_script.specs.Lines.{lines_of}
-use Rattle.qm_script.specs.Orders.{order_of, fed_by}
-use Rattle.qm_script.specs.declared.TheConstants.{MOST_LINES}
+use Rattle.qm_script.specs.Orders.{order_of, fed_by, hex_bytes_of, is_skipped}
 use Rattle.qm_script.specs.declared.endings.Refused.{Refused}
 use Rattle.qm_script.specs.declared.endings.StepWord.TheVariants as word
 use Rattle.qm_script.specs.declared.endings.Stop.{Stop}
@@ -71,30 +69,32 @@ abbrev pub ordered : ℕ → Played → List ℕ → Option Order → Result Pla
 ordered entries played line None = Err BadLine
 ordered entries played line (Some order.Open) = open_step entries played
 ordered entries played line (Some (order.Text s)) = fed_step played s (fed_by line ++ 10 ∷ []) (session_refusal s (past_of played.journal) None)
+ordered entries played line (Some (order.Feed s)) = fed_step played s (hex_bytes_of (fed_by line)) (session_refusal s (past_of played.journal) None)
 ordered entries played line (Some (order.Admit s)) = admit_step entries played s (session_refusal s (past_of played.journal) None)
 ordered entries played line (Some order.Start) = core_step entries played step.Start
 ordered entries played line (Some (order.Finish moment)) = finish_step entries played moment (named_of (running_of (past_of played.journal)))
 ordered entries played line (Some (order.Take s)) = core_step entries played (step.Take s)
 ordered entries played line (Some (order.Eof s)) = core_step entries played (step.End s)
-ordered entries played line (Some (order.DropEnded s)) = core_step entries played (step.Drop s cause.Ended)
+ordered entries played line (Some (order.Drop s cause)) = core_step entries played (step.Drop s cause)
 
--- what the line of this number does
-abbrev pub line_step : ℕ → ℕ → Played → List ℕ → Result Played Stop
-line_step entries n played line = cond (nat_lt MOST_LINES n) (Err BadLine) (ordered entries played line (order_of line))
+-- what a line does; empty lines and comments do nothing
+abbrev pub line_step : ℕ → Played → List ℕ → Result Played Stop
+line_step entries played line = cond (is_skipped line) (Ok played) (ordered entries played line (order_of line))
 
 -- what was played in the end, and the line that was refused, if one was
 pub record Ended : Type 0 where
   pub played : Played
   pub refused : Option Refused
 
+-- the number of a refused line is told as far as 32 bits tell it
 abbrev pub after_line : ℕ → Played → Result Played Stop → (Played → Ended) → Ended
 after_line n played (Ok next) go = go next
-after_line n played (Err stop) go = record { played = played; refused = Some record { line = n; stop = stop } }
+after_line n played (Err stop) go = record { played = played; refused = Some record { line = min n (2 ^ 32 - 1); stop = stop } }
 
 -- the lines from this number on, up to the first that is refused
 abbrev pub played_from : ℕ → ℕ → Played → List (List ℕ) → Ended
 played_from entries n played [] = record { played = played; refused = None }
-played_from entries n played (line ∷ lines) = after_line n played (line_step entries n played line) (λ next. played_from entries (n + 1) next lines)
+played_from entries n played (line ∷ lines) = after_line n played (line_step entries played line) (λ next. played_from entries (n + 1) next lines)
 
 abbrev pub nothing_played : Played
 nothing_played = record { journal = []; fed = [] }

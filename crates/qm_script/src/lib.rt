@@ -4,6 +4,7 @@
 pub mod closings;
 pub mod endings;
 pub mod feeder;
+mod hex;
 pub mod laws;
 pub mod lines;
 pub mod orders;
@@ -13,6 +14,3 @@ pub mod replays;
 pub use endings::{PlayEnd, Refused, StepWord, Stop};
 pub use orders::Order;
 pub use replays::play;
-
-/// How many lines a script may have.
-pub const MOST_LINES: u32 = 10_000;

@@ -1,4 +1,4 @@
-ghost use Rattle.std.specs.Prelude.{◌≡◌, ◌≢◌, ◌≤◌, ◌++◌, IfOk, Err, length};
+ghost use Rattle.std.specs.Prelude.{◌≡◌, ◌≢◌, ◌≤◌, ◌++◌, ◌-◌, ◌^◌, min, IfOk, Err, length};
 ghost use Rattle.qm_base.specs.Faults.{Puts, Rose};
 ghost use Rattle.qm_core.specs.Texts.{text_of};
 ghost use Rattle.qm_script.specs.Endings.{closing_of};
@@ -27,18 +27,27 @@ pub struct Finished {
     pub refused: Option<Refused>,
 }
 
+fn told_number(number: u64) -> u32
+    ensures { result ≡ min number (2 ^ 32 - 1) }
+{
+    number.min(u32::MAX as u64) as u32
+}
+
 fn run(alloc: Global, player: Player, script: &[u8]) -> Result<Finished, NoMemory>
     ensures { IfOk result (Finishes (played_from player.entries 1 player.played (lines_of script.now))) }
 {
     let mut player = player;
     let mut rest = script;
-    let mut number = 0u32;
+    let mut number = 0u64;
     while rest.len() > 0 {
         let (line, later) = first_line(rest);
         number += 1;
-        let Turn { player: next, stop } = player.line(alloc, number, line)?;
+        let Turn { player: next, stop } = player.line(alloc, line)?;
         if let Some(stop) = stop {
-            let refused = Refused { line: number, stop };
+            let refused = Refused {
+                line: told_number(number),
+                stop,
+            };
             return Ok(Finished {
                 player: next,
                 refused: Some(refused),
