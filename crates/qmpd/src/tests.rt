@@ -85,7 +85,7 @@ fn negotiation_comes_first_and_once(rt: HostRuntime) -> Result<(), Fail> {
 fn refusals(rt: HostRuntime) -> Result<(), Fail> {
     for (script, want_status, want) in [
         ("", 0, "end 0\n"),
-        ("open\n\n", 5, "1 open 1\nerror: script line 2: bad-line\n"),
+        ("open\n\n#\n", 0, "1 open 1\nend 1\n"),
         (
             "open\nopen\n",
             5,
