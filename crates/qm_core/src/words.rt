@@ -1,12 +1,15 @@
-ghost use Rattle.std.specs.Prelude.{◌≡◌};
-ghost use Rattle.qm_core.specs.Texts.{cause_of, cause_word_of};
+ghost use Rattle.std.specs.Prelude.{◌≡◌, ◌≤◌, length};
+ghost use Rattle.qm_core.specs.Texts.{cause_of, cause_word_of, frame_word_of, lane_word_of};
 
 use crate::entries::Cause;
+use crate::inputs::FrameWord;
+use qm_caps::Lane;
 
 impl Cause {
     /// The word of a cause in scripts and transcripts. This project's own rule.
     pub fn word(self) -> &'static [u8]
-        ensures { result.now ≡ cause_word_of self }
+        ensures word { result.now ≡ cause_word_of self }
+        ensures short { length result.now ≤ 11 }
     {
         match self {
             Cause::Ended => b"ended",
@@ -49,5 +52,29 @@ impl Cause {
             return Some(Cause::Halted);
         }
         None
+    }
+}
+
+impl FrameWord {
+    /// The word of a fault in transcripts. This project's own rule.
+    pub fn word(self) -> &'static [u8]
+        ensures { result.now ≡ frame_word_of self }
+    {
+        match self {
+            FrameWord::LexError => b"lex-error",
+            FrameWord::Unbalanced => b"unbalanced",
+            FrameWord::TooDeep => b"too-deep",
+            FrameWord::TooLong => b"too-long",
+        }
+    }
+}
+
+/// The word of a lane in transcripts. This project's own rule.
+pub fn lane_word(lane: Lane) -> &'static [u8]
+    ensures { result.now ≡ lane_word_of lane }
+{
+    match lane {
+        Lane::InBand => b"in",
+        Lane::Oob => b"oob",
     }
 }
