@@ -3,7 +3,7 @@ ghost use Rattle.qm_core.specs.Legal.{past_of};
 ghost use Rattle.qm_core.specs.Next.{Start, Take, End, Drop, session_refusal};
 ghost use Rattle.qm_core.specs.Next as step;
 ghost use Rattle.qm_core.specs.Standing.{admitted_of, named_of, running_of, was_opened};
-ghost use Rattle.qm_core.specs.declared.TheConstants.{MOST_ENTRIES};
+ghost use Rattle.qm_core.specs.declared.TheConstants.{MOST_ENTRIES, MOST_TEXT};
 ghost use Rattle.qm_core.specs.Inputs.{IsCleanInput};
 ghost use Rattle.qm_script.specs.Fed.{fed_inputs_of};
 ghost use Rattle.qm_script.specs.Endings.{stop_of as stop_of_fault};
@@ -76,7 +76,8 @@ impl Player {
     pub fn new(alloc: Global, limits: Limits) -> Result<Player, NoMemory>
         requires some { 1 ≤ limits.entries }
         requires few { limits.entries ≤ MOST_ENTRIES }
-        ensures { IfOk result (λ player. player ≡ record { entries = limits.entries; played = nothing_played }) }
+        requires short { limits.text ≤ MOST_TEXT }
+        ensures { IfOk result (λ player. player ≡ record { limits = limits; played = nothing_played }) }
     {
         let monitor = Monitor::new(alloc, limits)?;
         Ok(Player {
@@ -111,7 +112,7 @@ impl Player {
     }
 
     fn open(mut self, alloc: Global) -> Result<Turn, NoMemory>
-        ensures { IfOk result (Turns self (open_step self.entries self.played)) }
+        ensures { IfOk result (Turns self (open_step self.limits self.played)) }
     {
         if self.feeder.is_some() {
             return Ok(self.refused(Stop::BadLine));
@@ -176,7 +177,7 @@ impl Player {
 
     fn admit_input(mut self, alloc: Global, session: u32, input: Input) -> Result<Turn, NoMemory>
         requires { IsCleanInput input }
-        ensures { IfOk result (Turns self (core_step self.entries self.played (step.Admit session input))) }
+        ensures { IfOk result (Turns self (core_step self.limits self.played (step.Admit session input))) }
     {
         let mut offer = Offer::of(alloc, input)?;
         match self.monitor.admit(session, &mut offer) {
@@ -186,7 +187,7 @@ impl Player {
     }
 
     fn admit(self, alloc: Global, session: u32) -> Result<Turn, NoMemory>
-        ensures { IfOk result (Turns self (admit_step self.entries self.played session
+        ensures { IfOk result (Turns self (admit_step self.limits self.played session
             (session_refusal session (past_of self.played.journal) None))) }
     {
         if !self.monitor.is_known(session) {
@@ -202,7 +203,7 @@ impl Player {
     }
 
     fn start(mut self) -> Turn
-        ensures { Turns self (core_step self.entries self.played Start) result }
+        ensures { Turns self (core_step self.limits self.played Start) result }
     {
         match self.monitor.start() {
             Ok(_) => self.stepped(),
@@ -211,7 +212,7 @@ impl Player {
     }
 
     fn finish(mut self, alloc: Global, moment: u64) -> Result<Turn, NoMemory>
-        ensures { IfOk result (Turns self (finish_step self.entries self.played moment
+        ensures { IfOk result (Turns self (finish_step self.limits self.played moment
             (named_of (running_of (past_of self.played.journal))))) }
     {
         let Some(request) = self.monitor.running() else {
@@ -228,7 +229,7 @@ impl Player {
     }
 
     fn take(mut self, session: u32) -> Turn
-        ensures { Turns self (core_step self.entries self.played (Take session)) result }
+        ensures { Turns self (core_step self.limits self.played (Take session)) result }
     {
         match self.monitor.take(session) {
             Ok(_) => self.stepped(),
@@ -237,7 +238,7 @@ impl Player {
     }
 
     fn end(mut self, session: u32) -> Turn
-        ensures { Turns self (core_step self.entries self.played (End session)) result }
+        ensures { Turns self (core_step self.limits self.played (End session)) result }
     {
         match self.monitor.end(session) {
             Ok(()) => self.stepped(),
@@ -246,7 +247,7 @@ impl Player {
     }
 
     fn drop_session(mut self, session: u32, cause: Cause) -> Turn
-        ensures { Turns self (core_step self.entries self.played (Drop session cause)) result }
+        ensures { Turns self (core_step self.limits self.played (Drop session cause)) result }
     {
         match self.monitor.drop_session(session, cause) {
             Ok(()) => self.stepped(),
@@ -255,7 +256,7 @@ impl Player {
     }
 
     fn ordered(self, alloc: Global, order: Order, line: &[u8]) -> Result<Turn, NoMemory>
-        ensures { IfOk result (Turns self (ordered self.entries self.played line.now (Some order))) }
+        ensures { IfOk result (Turns self (ordered self.limits self.played line.now (Some order))) }
     {
         match order {
             Order::Open => self.open(alloc),
@@ -272,7 +273,7 @@ impl Player {
 
     /// Plays a line.
     pub fn line(self, alloc: Global, line: &[u8]) -> Result<Turn, NoMemory>
-        ensures { IfOk result (Turns self (line_step self.entries self.played line.now)) }
+        ensures { IfOk result (Turns self (line_step self.limits self.played line.now)) }
     {
         if is_skipped(line) {
             return Ok(self.stepped());

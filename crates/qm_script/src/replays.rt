@@ -2,7 +2,7 @@ ghost use Rattle.std.specs.Prelude.{◌≡◌, ◌≢◌, ◌≤◌, ◌++◌, �
 ghost use Rattle.qm_base.specs.Faults.{Puts, Rose};
 ghost use Rattle.qm_core.specs.Texts.{text_of};
 ghost use Rattle.qm_script.specs.Endings.{closing_of};
-ghost use Rattle.qm_core.specs.declared.TheConstants.{MOST_ENTRIES};
+ghost use Rattle.qm_core.specs.declared.TheConstants.{MOST_ENTRIES, MOST_TEXT};
 ghost use Rattle.qm_script.specs.Lines.{lines_of};
 ghost use Rattle.qm_script.specs.Playing.{played_from, played_of};
 ghost use Rattle.qm_script.specs.Plays.{Plays};
@@ -34,7 +34,7 @@ fn told_number(number: u64) -> u32
 }
 
 fn run(alloc: Global, player: Player, script: &[u8]) -> Result<Finished, NoMemory>
-    ensures { IfOk result (Finishes (played_from player.entries 1 player.played (lines_of script.now))) }
+    ensures { IfOk result (Finishes (played_from player.limits 1 player.played (lines_of script.now))) }
 {
     let mut player = player;
     let mut rest = script;
@@ -101,7 +101,8 @@ fn put_transcript<S: Sink>(
 fn replayed(alloc: Global, limits: Limits, script: &[u8]) -> Result<Finished, NoMemory>
     requires some { 1 ≤ limits.entries }
     requires few { limits.entries ≤ MOST_ENTRIES }
-    ensures { IfOk result (Finishes (played_of limits.entries script.now)) }
+    requires short { limits.text ≤ MOST_TEXT }
+    ensures { IfOk result (Finishes (played_of limits script.now)) }
 {
     let player = Player::new(alloc, limits)?;
     run(alloc, player, script)
@@ -112,7 +113,8 @@ fn replayed(alloc: Global, limits: Limits, script: &[u8]) -> Result<Finished, No
 pub fn play<S: Sink>(alloc: Global, limits: Limits, script: &[u8], sink: &mut S) -> PlayEnd
     requires some { 1 ≤ limits.entries }
     requires few { limits.entries ≤ MOST_ENTRIES }
-    ensures { Plays (played_of limits.entries script.now) record {
+    requires short { limits.text ≤ MOST_TEXT }
+    ensures { Plays (played_of limits script.now) record {
       held = S.contents sink.old;
       holds = S.contents sink.new;
       before = S.faults sink.old;

@@ -5,6 +5,8 @@ use qm_link::MemorySink;
 use std::alloc::{AllocError, Global};
 use std::test::Fail;
 
+mod limits;
+
 const GREETING: &str =
     "> {\"QMP\": {\"version\": {\"qemu\": {\"micro\": 0, \"minor\": 0, \"major\": 1}, \"package\": \"qmpd\"}, \"capabilities\": [\"oob\"]}}\n";
 
