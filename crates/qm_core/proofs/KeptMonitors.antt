@@ -1,44 +1,57 @@
 -- What the fields of a monitor keep, after one more entry.
-use Rattle.std.proofs.Common.{◌≡◌, ℕ, ◌+◌, ◌<◌, ◌≤◌, max, Bool, false, not, cond, ◌&&◌, Option, Some, None, List, [], ◌∷◌, ◌++◌, length, refl, ap, arith}
+use Rattle.std.proofs.Common.{◌≡◌, ℕ, ◌+◌, ◌^◌, ◌<◌, ◌≤◌, max, Bool, true, false, ◌&&◌, Option, Some, None, List, [], ◌∷◌, ◌++◌, length, refl, ap, sym, arith}
+use Rattle.std.proofs.lemmas.List.{length-append}
 use Rattle.qm_base.specs.Reserving.{Reserved}
 use Rattle.qm_json.specs.Printing.{printed}
 use Rattle.qm_json.specs.declared.value.Json.{Json}
+use Rattle.qm_caps.specs.Greetings.{greeting_value}
 use Rattle.qm_caps.specs.Modes.{bound_of}
 use Rattle.qm_caps.specs.declared.mode.Lane.TheVariants.{InBand}
-use Rattle.qm_caps.specs.declared.mode.Mode.TheVariants.{Command}
+use Rattle.qm_core.specs.declared.TheConstants.{DROP_BYTES}
+use Rattle.qm_core.specs.declared.entries.Cause.{Cause}
 use Rattle.qm_core.specs.declared.entries.Entry.{Entry}
-use Rattle.qm_core.specs.declared.entries.Entry.TheVariants.{Admit, Done}
+use Rattle.qm_core.specs.declared.entries.Entry.TheVariants.{Open, Admit, Done, Drop}
 use Rattle.qm_core.specs.declared.inputs.Input.{Input}
 use Rattle.qm_core.specs.declared.monitor.Monitor.TheInside.{Inside as Fields}
 use Rattle.qm_core.specs.declared.requests.Request.{Request}
 use Rattle.qm_core.specs.declared.requests.Started.{Started}
 use Rattle.qm_core.specs.declared.sessions.Session.{Session}
 use Rattle.qm_core.specs.Inputs.{IsCleanInput}
-use Rattle.qm_core.specs.Kept.{IsSession, IsFirstOpen, IsRunning, IsSound}
+use Rattle.qm_core.specs.Kept.{HasPlace, IsSession, IsFirstOpen, IsRunning, IsSound, answered, sent, shown}
 use Rattle.qm_core.specs.Legal.{past_of}
 use Rattle.qm_core.specs.Order.{MayFollow}
 use Rattle.qm_core.specs.Replies.{reply_to, is_return}
-use Rattle.qm_core.specs.Standing.{is_ended, open_count_of, in_flight_of, mode_of, running_of, negotiates, last_moment_of}
+use Rattle.qm_core.specs.Standing.{is_ended, open_count_of, admitted_of, in_flight_of, mode_of, running_of, negotiates, last_moment_of}
+use Rattle.qm_core.specs.Texts.{entry_text_of}
 use Rattle.qm_core.proofs.Journals.{legal-append, past_of-append}
-use Rattle.qm_core.proofs.KeptSessions.{kept-admit, kept-done, none_waits}
+use Rattle.qm_core.proofs.KeptSessions.{kept-admit, kept-done, kept-open, none_waits}
+use Rattle.qm_core.proofs.Texts.{text_more}
 
-after_entry : (m : Fields) (e : Entry) (session : Session) (running : Option Request) (moment : ℕ) → IsSound m → MayFollow (past_of m.journal.items) e →
-    length (past_of m.journal.items) + 1 + open_count_of (e ∷ past_of m.journal.items) ≤ m.limits.entries →
+-- the fields after one more entry are sound
+pub after_entry : (m : Fields) (e : Entry) (journal : Reserved Entry) (bytes : ℕ) (session : Session) (running : Option Request) (moment : ℕ) → IsSound m →
+    MayFollow (past_of m.journal.items) e → bytes ≡ length (entry_text_of (length m.journal.items + 1) e) → HasPlace (shown m) bytes (open_count_of (e ∷ past_of m.journal.items)) →
+    journal ≡ record m.journal { items = m.journal.items ++ e ∷ [] } →
     IsSession (e ∷ past_of m.journal.items) session → IsRunning (e ∷ past_of m.journal.items) running → moment ≡ last_moment_of (e ∷ past_of m.journal.items) →
-    IsSound record { limits = m.limits; journal = record m.journal { items = m.journal.items ++ e ∷ [] }; session = session; running = running; last_moment = moment }
-after_entry m e session running moment sound may room kept runs last = record {
-  legal = legal-append m.journal.items e sound.legal may;
-  room = rw (past_of-append m.journal.items e) (omega (arith, room));
-  places = sound.places;
-  few = sound.few;
-  session = rw (past_of-append m.journal.items e) kept;
-  running = rw (past_of-append m.journal.items e) runs;
-  moment = rw (past_of-append m.journal.items e) last;
-}
+    IsSound record { limits = m.limits; journal = journal; session = session; running = running; last_moment = moment }
+after_entry m e journal bytes session running moment sound may size room added kept runs last =
+    let next = past_of-append m.journal.items e in
+    let more = text_more m.journal.items e in
+    let one = length-append m.journal.items (e ∷ []) in
+    rw added record {
+      legal = legal-append m.journal.items e sound.legal may;
+      room = record { entries = rw next (omega (arith, one, room.entries)); text = rw next (omega (arith, more, size, room.text)) };
+      places = sound.places;
+      few = sound.few;
+      short = sound.short;
+      session = rw next kept;
+      running = rw next runs;
+      moment = rw next last;
+    }
 
-pub sound-admit : (m : Fields) (journal : Reserved Entry) (s : ℕ) (input waiting : Input) → IsSound m → IsFirstOpen (past_of m.journal.items) s →
+pub sound-admit : (m : Fields) (journal : Reserved Entry) (s bytes : ℕ) (input waiting : Input) → IsSound m → IsFirstOpen (past_of m.journal.items) s →
     is_ended s (past_of m.journal.items) ≡ false → in_flight_of s (past_of m.journal.items) < bound_of (mode_of s (past_of m.journal.items)) → IsCleanInput input → waiting ≡ input →
-    length (past_of m.journal.items) + 1 + open_count_of (past_of m.journal.items) ≤ m.limits.entries →
+    bytes ≡ length (entry_text_of (length m.journal.items + 1) (Admit s (admitted_of s (past_of m.journal.items) + 1) InBand input)) →
+    HasPlace (shown m) bytes (open_count_of (past_of m.journal.items)) →
     journal ≡ record m.journal { items = m.journal.items ++ Admit s (m.session.admitted + 1) InBand input ∷ [] } →
     IsSound record {
       limits = m.limits;
@@ -50,10 +63,11 @@ pub sound-admit : (m : Fields) (journal : Reserved Entry) (s : ℕ) (input waiti
       running = m.running;
       last_moment = m.last_moment;
     }
-sound-admit m journal s input waiting sound first more below clean same room added =
+sound-admit m journal s bytes input waiting sound first more below clean same size room added =
     let past = past_of m.journal.items in
     let one = first.first in
-    rw (added, same, one) (after_entry m (Admit 1 (m.session.admitted + 1) InBand input) _ m.running m.last_moment sound
+    let number : admitted_of s past ≡ m.session.admitted = rw one (sym sound.session.admitted) in
+    rw (same, one) (after_entry m (Admit 1 (m.session.admitted + 1) InBand input) journal bytes _ m.running m.last_moment sound
     record {
       is_open = rw one at first.is_open;
       more = rw one at more;
@@ -62,27 +76,46 @@ sound-admit m journal s input waiting sound first more below clean same room add
       below = rw one at below;
       clean = clean;
     }
-    room (kept-admit past m.session input (rw one at first) (none_waits 1 past (rw one at below)) sound.session) record { request = sound.running.request; of_first = sound.running.of_first } sound.moment)
+    (rw (number, one) at size) room (rw one at added) (kept-admit past m.session input (rw one at first) (none_waits 1 past (rw one at below)) sound.session) record { request = sound.running.request; of_first = sound.running.of_first } sound.moment)
 
-pub sound-done : (m : Fields) (journal : Reserved Entry) (s k : ℕ) (request : Request) (reply : Json) (line : List ℕ) (moment last : ℕ) (commands : Bool) (session : Session) → IsSound m →
+pub sound-done : (m : Fields) (journal : Reserved Entry) (s k bytes : ℕ) (request : Request) (reply : Json) (line : List ℕ) (moment last : ℕ) (commands : Bool) (session : Session) → IsSound m →
     running_of (past_of m.journal.items) ≡ Some request → request.session ≡ s → request.number ≡ k → s ≡ 1 →
-    reply ≡ reply_to request → line ≡ printed (reply_to request) → commands ≡ (negotiates (Some request) && is_return (reply_to request)) → last ≡ max moment m.last_moment →
-    length (past_of m.journal.items) + 1 + open_count_of (past_of m.journal.items) ≤ m.limits.entries →
-    session ≡ record m.session {
-      mode = cond commands Command m.session.mode;
-      outbox = cond (m.session.opened && not m.session.dropped) (m.session.outbox ++ line ∷ []) m.session.outbox;
-    } →
+    reply ≡ reply_to request → line ≡ printed (reply_to request) → commands ≡ (negotiates (Some request) && is_return (reply_to request)) → last ≡ max moment m.last_moment → last < 2 ^ 64 →
+    bytes ≡ length (entry_text_of (length m.journal.items + 1) (Done s k reply last)) →
+    HasPlace (shown m) bytes (open_count_of (past_of m.journal.items)) →
+    session ≡ answered m.session line commands →
     journal ≡ record m.journal { items = m.journal.items ++ Done s k reply last ∷ [] } →
     IsSound record { limits = m.limits; journal = journal; session = session; running = None; last_moment = last }
-sound-done m journal s k request reply line moment last commands session sound runs named numbered one answer printing change greatest room answered added =
+sound-done m journal s k bytes request reply line moment last commands session sound runs named numbered one answer printing change greatest small size room said added =
     let past = past_of m.journal.items in
     let later : last_moment_of past ≤ last = omega (arith, sound.moment, greatest) in
     let again : last ≡ max last (last_moment_of past) = omega (arith, later) in
     let opens : commands ≡ (negotiates (running_of past) && is_return (reply_to request)) = rw runs change in
-    rw (added, answered, answer, printing, one) (after_entry m (Done 1 k (reply_to request) last) _ None last sound
+    rw (said, printing) (after_entry m (Done 1 k (reply_to request) last) journal bytes _ None last sound
     record {
       running = rw runs (ap (λ (q : Started). Some q) (rw (named, numbered, one) refl));
       answer = rw runs refl;
       later = later;
+      below = small;
     }
-    room (kept-done past m.session k (reply_to request) last commands sound.legal sound.session opens) record { request = refl; of_first = tt } again)
+    (rw (answer, one) at size) room (rw (answer, one) at added) (kept-done past m.session k (reply_to request) last commands sound.legal sound.session opens) record { request = refl; of_first = tt } again)
+
+pub sound-open : (m : Fields) (journal : Reserved Entry) (bytes : ℕ) (line : List ℕ) → IsSound m → past_of m.journal.items ≡ [] →
+    line ≡ printed greeting_value → bytes ≡ length (entry_text_of (length m.journal.items + 1) (Open 1)) →
+    HasPlace (shown m) bytes (open_count_of (Open 1 ∷ past_of m.journal.items)) →
+    journal ≡ record m.journal { items = m.journal.items ++ Open 1 ∷ [] } →
+    IsSound record { limits = m.limits; journal = journal; session = record (sent m.session line) { opened = true }; running = m.running; last_moment = m.last_moment }
+sound-open m journal bytes line sound none greeting size room added =
+    rw greeting (after_entry m (Open 1) journal bytes _ m.running m.last_moment sound
+    record { next = rw none refl; few = omega arith }
+    size room added (kept-open (past_of m.journal.items) m.session none sound.session) record { request = sound.running.request; of_first = sound.running.of_first } sound.moment)
+
+-- a drop has kept its place
+pub drop-place : (m : Fields) (s bytes : ℕ) (cause : Cause) → IsSound m → IsFirstOpen (past_of m.journal.items) s → bytes ≤ DROP_BYTES →
+    HasPlace (shown m) bytes (open_count_of (Drop s cause ∷ past_of m.journal.items))
+drop-place m s bytes cause sound first small =
+    let past = past_of m.journal.items in
+    let one = first.first in
+    let before : open_count_of past ≡ 1 = rw (first.known, first.stays) refl in
+    let after : open_count_of (Drop s cause ∷ past) ≡ 0 = rw (one, first.known) refl in
+    record { entries = omega (arith, sound.room.entries, before, after); text = omega (arith, sound.room.text, before, after, small) }

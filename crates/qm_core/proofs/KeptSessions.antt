@@ -1,10 +1,13 @@
 -- What is kept of the first session, and one more entry.
-use Rattle.std.proofs.Common.{◌≡◌, ℕ, ◌+◌, ◌<◌, ◌==◌, ◌≢◌, Bool, true, false, not, cond, ◌&&◌, Some, List, [], ◌∷◌, ◌++◌, length, refl, ap, ◌∙◌, arith}
+use Rattle.std.proofs.Common.{◌≡◌, ℕ, ◌+◌, ◌<◌, ◌==◌, ◌≢◌, Bool, true, false, not, cond, ◌&&◌, ◌||◌, Option, Some, None, List, [], ◌∷◌, length, refl, ap, sym, ◌∙◌, arith}
 use Rattle.std.specs.List.{list_any}
+use Rattle.std.specs.Option.{option_to_list}
+use Rattle.std.proofs.lemmas.List.Folds.{list_any-append}
 use Rattle.std.proofs.lemmas.List.Sums.{sum_by-cons}
 use Rattle.std.proofs.lemmas.Bool.Decides.{nat_tests}
 use Rattle.qm_json.specs.Printing.{printed}
 use Rattle.qm_json.specs.declared.value.Json.{Json}
+use Rattle.qm_caps.specs.Greetings.{greeting_value}
 use Rattle.qm_caps.specs.Modes.{bound_of}
 use Rattle.qm_caps.specs.declared.mode.Lane.TheVariants.{InBand}
 use Rattle.qm_caps.specs.declared.mode.Mode.{Mode}
@@ -12,13 +15,15 @@ use Rattle.qm_caps.specs.declared.mode.Mode.TheVariants.{Command}
 use Rattle.qm_core.specs.declared.entries.Entry.{Entry}
 use Rattle.qm_core.specs.declared.entries.Entry.TheVariants.{Open, Admit, Start, Done, Take, Eof, Drop}
 use Rattle.qm_core.specs.declared.inputs.Input.{Input}
+use Rattle.qm_core.specs.declared.requests.Request.{Request}
 use Rattle.qm_core.specs.declared.sessions.Session.{Session}
-use Rattle.qm_core.specs.Kept.{IsSession, IsFirstOpen}
+use Rattle.qm_core.specs.Kept.{IsSession, IsFirstOpen, Waits, answered, sent}
 use Rattle.qm_core.specs.Legal.{AllFollow}
 use Rattle.qm_core.specs.Replies.{is_return}
-use Rattle.qm_core.specs.Standing.{was_opened, is_open, is_dropped, admits, admitted_of, in_flight_of, mode_of, waiting_of, running_of, negotiates}
+use Rattle.qm_core.specs.Standing.{sessions_of, was_opened, is_open, is_dropped, admits, admitted_of, in_flight_of, mode_of, waiting_of, running_of, negotiates}
+use Rattle.qm_core.specs.Transcript.{Candidate, candidates_of, has_overrun, taken_of, with_line}
 use Rattle.qm_core.proofs.Journals.{dropped_opened}
-use Rattle.qm_core.proofs.Transcripts.{untaken-done}
+use Rattle.qm_core.proofs.Transcripts.{none-untaken, sent-more}
 
 none_other : (s : ℕ) (opened : Bool) → s ≢ 1 → list_any (λ t. t == s) (cond opened (1 ∷ []) []) ≡ false
 none_other s true other = (let no : (1 == s) ≡ false = grind (arith, nat_tests) in rw no refl)
@@ -72,6 +77,7 @@ kept-admit past session input first none kept = record {
   waiting = rw (none, kept.mode) refl;
   waits = (refl, first.is_open);
   outbox = kept.outbox;
+  overrun = kept.overrun;
 }
 
 pub open-kept : (past : List Entry) (session : Session) → IsSession past session → is_open 1 past ≡ (session.opened && not session.dropped)
@@ -80,13 +86,23 @@ open-kept past session kept = rw (kept.known, kept.dropped) (known session.opene
   known true stays = refl
   known false stays = refl
 
-pub kept-done : (past : List Entry) (session : Session) (k : ℕ) (reply : Json) (moment : ℕ) (commands : Bool) → AllFollow past → IsSession past session →
-    commands ≡ (negotiates (running_of past) && is_return reply) →
-    IsSession (Done 1 k reply moment ∷ past) (record session {
-      mode = cond commands Command session.mode;
-      outbox = cond (session.opened && not session.dropped) (session.outbox ++ printed reply ∷ []) session.outbox;
-    })
-kept-done past session k reply moment commands legal kept change = record {
+answered-as : (past : List Entry) (session : Session) (k : ℕ) (reply : Json) (moment : ℕ) (commands b : Bool) → AllFollow past → IsSession past session →
+    commands ≡ (negotiates (running_of past) && is_return reply) → is_open 1 past ≡ b →
+    IsSession (Done 1 k reply moment ∷ past) (let after = cond b (sent session (printed reply)) session in record after { mode = cond commands Command after.mode })
+answered-as past session k reply moment commands true legal kept change opens =
+    let more = sent-more 1 past (printed reply) legal in
+    record {
+      known = kept.known;
+      dropped = kept.dropped;
+      ended = kept.ended;
+      admitted = kept.admitted;
+      mode = rw (change, kept.mode) refl;
+      waiting = kept.waiting;
+      waits = kept.waits;
+      outbox = rw (opens, kept.outbox, kept.overrun) (sym more.1);
+      overrun = rw (opens, kept.outbox, kept.overrun) (sym more.0);
+    }
+answered-as past session k reply moment commands false legal kept change opens = record {
   known = kept.known;
   dropped = kept.dropped;
   ended = kept.ended;
@@ -94,5 +110,75 @@ kept-done past session k reply moment commands legal kept change = record {
   mode = rw (change, kept.mode) refl;
   waiting = kept.waiting;
   waits = kept.waits;
-  outbox = rw (untaken-done 1 k reply moment past legal, open-kept past session kept, kept.outbox) refl;
+  outbox = rw opens kept.outbox;
+  overrun = rw opens kept.overrun;
 }
+
+pub kept-done : (past : List Entry) (session : Session) (k : ℕ) (reply : Json) (moment : ℕ) (commands : Bool) → AllFollow past → IsSession past session →
+    commands ≡ (negotiates (running_of past) && is_return reply) → IsSession (Done 1 k reply moment ∷ past) (answered session (printed reply) commands)
+kept-done past session k reply moment commands legal kept change =
+    answered-as past session k reply moment commands (session.opened && not session.dropped) legal kept change (open-kept past session kept)
+
+no_waiting : (past : List Entry) (waiting : Option Request) → option_to_list waiting ≡ [] → Waits past waiting
+no_waiting past None e = tt
+no_waiting past (Some q) e = absurd cc
+
+-- the first session is opened
+pub kept-open : (past : List Entry) (session : Session) → past ≡ [] → IsSession past session →
+    IsSession (Open 1 ∷ past) (record (sent session (printed greeting_value)) { opened = true })
+kept-open past session none kept =
+    let more = sent-more 1 [] (printed greeting_value) tt in
+    let empty = rw none at kept in
+    rw none record {
+      known = refl;
+      dropped = empty.dropped;
+      ended = empty.ended;
+      admitted = empty.admitted;
+      mode = empty.mode;
+      waiting = empty.waiting;
+      waits = no_waiting (Open 1 ∷ []) session.waiting empty.waiting;
+      outbox = rw (empty.outbox, empty.overrun) (sym more.1);
+      overrun = rw (empty.outbox, empty.overrun) (sym more.0);
+    }
+
+-- all lines are handed out
+pub kept-take : (past : List Entry) (session : Session) (lines : List (List ℕ)) → AllFollow past → IsSession past session → lines ≡ session.outbox →
+    IsSession (Take 1 lines ∷ past) (record session { outbox = [] })
+kept-take past session lines legal kept all = record {
+  known = kept.known;
+  dropped = kept.dropped;
+  ended = kept.ended;
+  admitted = kept.admitted;
+  mode = kept.mode;
+  waiting = kept.waiting;
+  waits = kept.waits;
+  outbox = sym (none-untaken past lines legal (all ∙ kept.outbox));
+  overrun = kept.overrun;
+}
+
+or_none : (a b : Bool) → (a || b) ≡ false → (a ≡ false) × (b ≡ false)
+or_none true b h = absurd cc
+or_none false b h = (refl, h)
+
+-- a session that was not opened is sent nothing
+no_candidates : (s : ℕ) (past : List Entry) → was_opened s past ≡ false → candidates_of s past ≡ []
+no_candidates s [] none = refl
+no_candidates s (Open t ∷ past) none =
+    let parts = or_none (was_opened s past) ((t == s) || false) (sym (list_any-append (λ u. u == s) (sessions_of past) (t ∷ [])) ∙ none) in
+    rw ((or_none (t == s) false parts.1).0) (no_candidates s past parts.0)
+no_candidates s (Admit t k lane input ∷ past) none = no_candidates s past none
+no_candidates s (Start t k ∷ past) none = no_candidates s past none
+no_candidates s (Done t k reply moment ∷ past) none = closed (t == s) (was_opened s past) none (no_candidates s past none) where
+  closed : (same opened : Bool) → opened ≡ false → candidates_of s past ≡ [] →
+      cond (same && (opened && not (is_dropped s past))) (with_line (candidates_of s past) (taken_of s past) (printed reply)) (candidates_of s past) ≡ []
+  closed true false h e = e
+  closed false false h e = e
+  closed same true h e = absurd cc
+no_candidates s (Take t lines ∷ past) none = no_candidates s past none
+no_candidates s (Eof t ∷ past) none = no_candidates s past none
+no_candidates s (Drop t cause ∷ past) none = no_candidates s past none
+
+-- no other session overran
+pub other_not_overrun : (s : ℕ) (past : List Entry) (session : Session) → s ≢ 1 → IsSession past session → has_overrun s past ≡ false
+other_not_overrun s past session other kept =
+    ap (λ (l : List Candidate). list_any (λ c. c.overruns) l) (no_candidates s past (ap (λ (l : List ℕ). list_any (λ t. t == s) l) kept.known ∙ none_other s session.opened other))

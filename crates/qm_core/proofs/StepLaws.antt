@@ -1,21 +1,23 @@
 -- The entry of a step that is not refused may come next.
-use Rattle.std.proofs.Common.{◌≡◌, ℕ, Bool, true, false, cond, ◌&&◌, ◌||◌, Option, Some, None, is_some, is_none, List, length, nat_le, ◌==◌, refl, ap, sym, ◌∙◌, arith}
+use Rattle.std.proofs.Common.{◌≡◌, ℕ, ◌^◌, ◌<◌, Bool, true, false, cond, ◌&&◌, ◌||◌, Option, Some, None, is_some, is_none, List, [], ◌∷◌, length, nat_le, ◌==◌, refl, ap, sym, ◌∙◌, arith}
 use Rattle.std.proofs.lemmas.Bool.Decides.{nat_tests, Decides-eqb}
 use Rattle.qm_caps.specs.Modes.{bound_of}
 use Rattle.qm_core.specs.declared.TheConstants.{MOST_SESSIONS}
 use Rattle.qm_core.specs.declared.entries.Cause.{Cause}
 use Rattle.qm_core.specs.declared.entries.Cause.TheVariants as cause
 use Rattle.qm_core.specs.declared.entries.Entry.{Entry}
+use Rattle.qm_core.specs.declared.entries.Entry.TheVariants as entry
 use Rattle.qm_core.specs.declared.entries.StepFault.{StepFault}
-use Rattle.qm_core.specs.declared.entries.StepFault.TheVariants.{NoSession, Closed, InputEnded, Busy, Nothing, NotRunning, NotDrained, SessionsFull}
+use Rattle.qm_core.specs.declared.entries.StepFault.TheVariants.{NoSession, Closed, InputEnded, Busy, Nothing, NotRunning, NotDrained, WrongCause, SessionsFull}
+use Rattle.qm_core.specs.declared.monitor.Limits.{Limits}
 use Rattle.qm_core.specs.declared.requests.Request.{Request}
 use Rattle.qm_core.specs.declared.requests.Started.{Started}
 use Rattle.qm_core.specs.Drained.{is_drained}
-use Rattle.qm_core.specs.Legal.{past_of, IsLegal}
+use Rattle.qm_core.specs.Legal.{past_of, AllFollow, IsLegal}
 use Rattle.qm_core.specs.Next.{Next, Shown, Step, Open, Admit, Start, Finish, Take, End, Drop, IsCleanStep, entry_of, start_entry, refusal_of, full_refusal, session_refusal, cause_refusal, names, is_running}
 use Rattle.qm_core.specs.Order.{MayFollow, Holds}
-use Rattle.qm_core.specs.Standing.{sessions_of, was_opened, is_dropped, is_ended, is_open, in_flight_of, mode_of, running_of, starting_of, named_of}
-use Rattle.qm_core.specs.Transcript.{untaken_of}
+use Rattle.qm_core.specs.Standing.{sessions_of, was_opened, is_dropped, is_ended, is_open, in_flight_of, mode_of, running_of, starting_of, named_of, last_moment_of}
+use Rattle.qm_core.specs.Transcript.{has_overrun, untaken_of}
 use Rattle.qm_core.proofs.Journals.{legal-append}
 
 -- a refusal that did not come
@@ -37,10 +39,10 @@ both : (a b : Bool) → (a && b) ≡ true → (a ≡ true) × (b ≡ true)
 both true b h = (refl, h)
 both false b h = absurd cc
 
-drops_for : (past : List Entry) (s : ℕ) (why : Cause) → None ≡ cause_refusal why (is_drained s past) → Holds past s why
+drops_for : (past : List Entry) (s : ℕ) (why : Cause) → None ≡ cause_refusal why (is_drained s past) (has_overrun s past) → Holds past s why
 drops_for past s cause.Ended h = (held (is_drained s past) NotDrained None h).0
 drops_for past s cause.Stopped h = absurd cc
-drops_for past s cause.Overrun h = absurd cc
+drops_for past s cause.Overrun h = (held (has_overrun s past) WrongCause None h).0
 drops_for past s cause.ReadFault h = tt
 drops_for past s cause.WriteFault h = tt
 drops_for past s cause.Limit h = tt
@@ -60,30 +62,41 @@ named_is s k (Some q) h =
     let number : q.number ≡ k = (Decides-eqb q.number k).0 same.1 in
     ap (λ (n : ℕ). Some record { session = n; number = q.number }) session ∙ ap (λ (n : ℕ). Some record { session = s; number = n }) number
 
-pub may_follow : (entries : ℕ) (past : List Entry) (step : Step) → IsCleanStep step → None ≡ refusal_of entries past step → MayFollow past (entry_of past step)
-may_follow entries past Open clean h = (let few = (passed (nat_le MOST_SESSIONS (length (sessions_of past))) SessionsFull (full_refusal entries past (entry_of past Open)) h).0 in record { next = refl; few = grind (arith, nat_tests, few) })
-may_follow entries past (Admit s input) clean h =
-    (let full = full_refusal entries past (entry_of past (Admit s input)) in
+-- moments have 64 bits
+pub last-below : (past : List Entry) → AllFollow past → last_moment_of past < 2 ^ 64
+last-below [] legal = omega arith
+last-below (entry.Open s ∷ past) legal = last-below past legal.1
+last-below (entry.Admit s k lane input ∷ past) legal = last-below past legal.1
+last-below (entry.Start s k ∷ past) legal = last-below past legal.1
+last-below (entry.Done s k reply moment ∷ past) legal = omega (arith, legal.0.below, last-below past legal.1)
+last-below (entry.Take s lines ∷ past) legal = last-below past legal.1
+last-below (entry.Eof s ∷ past) legal = last-below past legal.1
+last-below (entry.Drop s why ∷ past) legal = last-below past legal.1
+
+pub may_follow : (limits : Limits) (past : List Entry) (step : Step) → last_moment_of past < 2 ^ 64 → IsCleanStep step → None ≡ refusal_of limits past step → MayFollow past (entry_of past step)
+may_follow limits past Open small clean h = (let few = (passed (nat_le MOST_SESSIONS (length (sessions_of past))) SessionsFull (full_refusal limits past (entry_of past Open)) h).0 in record { next = refl; few = grind (arith, nat_tests, few) })
+may_follow limits past (Admit s input) small clean h =
+    (let full = full_refusal limits past (entry_of past (Admit s input)) in
     let busy = nat_le (bound_of (mode_of s past)) (in_flight_of s past) in
     let first = open_first s past (cond (is_ended s past) (Some InputEnded) (cond busy (Some Busy) full)) h in
     let more = passed (is_ended s past) InputEnded (cond busy (Some Busy) full) first.1 in
     let below : busy ≡ false = (passed busy Busy full more.1).0 in
     record { is_open = first.0; more = more.0; next = refl; in_band = refl; below = grind (arith, nat_tests, below); clean = clean })
-may_follow entries past Start clean h = starts past (running_of past) (starting_of past) refl refl (passed (is_some (running_of past) || is_none (starting_of past)) Nothing (full_refusal entries past (entry_of past Start)) h).0
-may_follow entries past (Finish s k moment) clean h = record { running = named_is s k (named_of (running_of past)) (held (is_running s k past) NotRunning (full_refusal entries past (entry_of past (Finish s k moment))) h).0; answer = refl; later = omega arith }
-may_follow entries past (Take s) clean h =
-    (let full = full_refusal entries past (entry_of past (Take s)) in
+may_follow limits past Start small clean h = starts past (running_of past) (starting_of past) refl refl (passed (is_some (running_of past) || is_none (starting_of past)) Nothing (full_refusal limits past (entry_of past Start)) h).0
+may_follow limits past (Finish s k moment) small clean h = record { running = named_is s k (named_of (running_of past)) (held (is_running s k past) NotRunning (full_refusal limits past (entry_of past (Finish s k moment))) h).0; answer = refl; later = omega arith; below = omega (arith, small, clean) }
+may_follow limits past (Take s) small clean h =
+    (let full = full_refusal limits past (entry_of past (Take s)) in
     let first = open_first s past (cond (length (untaken_of s past) == 0) (Some Nothing) full) h in
     let some : (length (untaken_of s past) == 0) ≡ false = (passed (length (untaken_of s past) == 0) Nothing full first.1).0 in
     record { is_open = first.0; some = grind (arith, nat_tests, some); all = refl })
-may_follow entries past (End s) clean h =
-    (let full = full_refusal entries past (entry_of past (End s)) in
+may_follow limits past (End s) small clean h =
+    (let full = full_refusal limits past (entry_of past (End s)) in
     let first = open_first s past (cond (is_ended s past) (Some InputEnded) full) h in
     record { is_open = first.0; more = (passed (is_ended s past) InputEnded full first.1).0 })
-may_follow entries past (Drop s why) clean h =
-    (let first = open_first s past (cause_refusal why (is_drained s past)) h in
+may_follow limits past (Drop s why) small clean h =
+    (let first = open_first s past (cause_refusal why (is_drained s past) (has_overrun s past)) h in
     record { is_open = first.0; holds = drops_for past s why first.1 })
 
 pub next_legal : (old : Shown) (step : Step) (fault : Option StepFault) (new : Shown) → Next old step fault new → IsCleanStep step → IsLegal old.journal → IsLegal new.journal
 next_legal old step (Some f) new next clean legal = rw next.journal legal
-next_legal old step None new next clean legal = rw next.journal (legal-append old.journal (entry_of (past_of old.journal) step) legal (may_follow old.limits.entries (past_of old.journal) step clean next.answer))
+next_legal old step None new next clean legal = rw next.journal (legal-append old.journal (entry_of (past_of old.journal) step) legal (may_follow old.limits (past_of old.journal) step (last-below (past_of old.journal) legal) clean next.answer))

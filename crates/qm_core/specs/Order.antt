@@ -1,5 +1,5 @@
 -- Which entry may come next (this project's own rule).
-use Rattle.std.specs.Prelude.{◌≡◌, ℕ, ◌+◌, ◌<◌, ◌≤◌, true, false, List, length, Option, Some, None}
+use Rattle.std.specs.Prelude.{◌≡◌, ℕ, ◌+◌, ◌^◌, ◌<◌, ◌≤◌, true, false, List, length, Option, Some, None}
 use Rattle.qm_json.specs.declared.value.Json.{Json}
 use Rattle.qm_json.specs.declared.value.Json.TheVariants.{Null}
 use Rattle.qm_caps.specs.Modes.{bound_of}
@@ -9,7 +9,7 @@ use Rattle.qm_core.specs.Drained.{is_drained}
 use Rattle.qm_core.specs.Inputs.{IsCleanInput}
 use Rattle.qm_core.specs.Replies.{reply_to}
 use Rattle.qm_core.specs.Standing.{sessions_of, is_open, is_ended, admitted_of, in_flight_of, mode_of, running_of, starting_of, named_of, last_moment_of}
-use Rattle.qm_core.specs.Transcript.{untaken_of}
+use Rattle.qm_core.specs.Transcript.{has_overrun, untaken_of}
 use Rattle.qm_core.specs.declared.TheConstants.{MOST_SESSIONS}
 use Rattle.qm_core.specs.declared.entries.Cause.{Cause}
 use Rattle.qm_core.specs.declared.entries.Cause.TheVariants.{Ended, ReadFault, WriteFault, Overrun, Stopped, Limit, Memory, Halted}
@@ -47,6 +47,7 @@ pub record MayFinish (past : List Entry) (s k : ℕ) (reply : Json) (moment : �
   pub running : named_of (running_of past) ≡ Some record { session = s; number = k }
   pub answer : reply ≡ reply_of (running_of past)
   pub later : last_moment_of past ≤ moment
+  pub below : moment < 2 ^ 64
 
 -- all lines of an open session that are untaken are handed out
 pub record MayTake (past : List Entry) (s : ℕ) (lines : List (List ℕ)) : Type 0 where
@@ -59,11 +60,11 @@ pub record MayEnd (past : List Entry) (s : ℕ) : Type 0 where
   pub is_open : is_open s past ≡ true
   pub more : is_ended s past ≡ false
 
--- the cause of a drop holds; no command stops the monitor yet, and no session overruns
+-- the cause of a drop holds; no command stops the monitor yet
 abbrev pub Holds : List Entry → ℕ → Cause → Type 0
 Holds past s Ended = is_drained s past ≡ true
 Holds past s Stopped = ⊥
-Holds past s Overrun = ⊥
+Holds past s Overrun = has_overrun s past ≡ true
 Holds past s ReadFault = Unit {0}
 Holds past s WriteFault = Unit {0}
 Holds past s Limit = Unit {0}

@@ -1,7 +1,8 @@
 -- The text of a journal (this project's own rule). Lines end with LF.
-use Rattle.std.specs.Prelude.{ℕ, ◌+◌, List, [], ◌∷◌, ◌++◌, codes, length}
+use Rattle.std.specs.Prelude.{ℕ, ◌+◌, List, [], ◌∷◌, ◌++◌, codes, find, length, Option}
 use Rattle.std.specs.Fmt.{decimal}
 use Rattle.std.specs.List.{flat_map}
+use Rattle.std.specs.Str.{bytes_eq}
 use Rattle.qm_json.specs.Printing.{printed}
 use Rattle.qm_caps.specs.declared.mode.Lane.{Lane}
 use Rattle.qm_caps.specs.declared.mode.Lane.TheVariants.{InBand, Oob}
@@ -52,6 +53,14 @@ cause_word_of cause.Stopped = codes "stopped"
 cause_word_of cause.Limit = codes "limit"
 cause_word_of cause.Memory = codes "memory"
 cause_word_of cause.Halted = codes "halted"
+
+abbrev pub causes : List Cause
+causes =
+    cause.Ended ∷ cause.ReadFault ∷ cause.WriteFault ∷ cause.Overrun ∷ cause.Stopped ∷ cause.Limit ∷ cause.Memory ∷ cause.Halted ∷ []
+
+-- the cause of a word, if it has one
+abbrev pub cause_of : List ℕ → Option Cause
+cause_of word = find (λ c. bytes_eq word (cause_word_of c)) causes
 
 -- the two numbers of a request
 abbrev pub request_text_of : ℕ → ℕ → List ℕ

@@ -15,7 +15,9 @@ mod refusals;
 mod replies;
 pub mod requests;
 mod sessions;
+mod sizes;
 pub mod verdicts;
+mod words;
 
 pub use entries::{Cause, Entry, StepFault};
 pub use inputs::{BadInput, FrameWord, Input, JsonWord};
@@ -25,9 +27,19 @@ pub use monitor::{Limits, Monitor};
 pub use offers::Offer;
 pub use requests::{Admitted, Request, Started};
 pub use verdicts::{Class, Command, Refusal, Verdict};
+pub use words::lane_word;
 
 /// How many sessions may ever be opened.
 pub const MOST_SESSIONS: u32 = 65_535;
 
 /// How many entries a journal may have.
 pub const MOST_ENTRIES: u64 = 1_000_000;
+
+/// How many bytes the entry lines of a journal may have, and what is kept for drops with them.
+pub const MOST_TEXT: u64 = 268_435_456;
+
+/// How many bytes of a journal's text are kept for the drop of each open session.
+pub const DROP_BYTES: u64 = 64;
+
+/// How many bytes of a session's lines may be untaken, CR LF counted.
+pub const MOST_UNTAKEN: u64 = 16_777_216;

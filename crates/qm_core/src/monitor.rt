@@ -1,19 +1,21 @@
-ghost use Rattle.std.specs.Prelude.{◌≡◌, ◌≢◌, ◌+◌, ◌≤◌, ◌<◌, [], ◌∷◌, length, Option, Some, Err, IfOk, IfErr, OnOk, IsTrue, ◌↔◌, false};
+ghost use Rattle.std.specs.Prelude.{◌≡◌, ◌≢◌, ◌≤◌, [], Option, Some, IfOk, IfErr, OnOk, IsTrue, ◌↔◌};
 ghost use Rattle.std.specs.Result.{result_err};
 ghost use Rattle.qm_core.specs.Legal.{IsLegal, past_of};
 ghost use Rattle.qm_core.specs.Next.{session_refusal};
-ghost use Rattle.qm_core.specs.Standing.{sessions_of, was_opened, is_dropped, is_ended, open_count_of, in_flight_of, running_of, named_of};
+ghost use Rattle.qm_core.specs.Standing.{sessions_of, was_opened, is_dropped, open_count_of, in_flight_of, running_of, named_of};
+ghost use Rattle.qm_core.specs.Transcript.{has_overrun};
 
 use crate::entries::StepFault;
-use crate::journal::EntryList;
+use crate::journal::{EntryList, Journal};
 use crate::requests::{Request, Started};
 use crate::sessions::Session;
-use qm_base::{NoMemory, ReservedList};
+use qm_base::NoMemory;
 use std::alloc::Global;
 use std::marker::Model;
 
 mod counts;
 mod request_steps;
+mod rooms;
 mod session_steps;
 #[cfg(test)]
 mod tests;
@@ -23,13 +25,15 @@ mod tests;
 pub struct Limits {
     /// The entries of the journal and the open sessions together.
     pub entries: u64,
+    /// The bytes of the entry lines, and 64 for each open session.
+    pub text: u64,
 }
 
 /// The monitor: its journal, and what stands in it. Contracts see its limits and its journal.
 #[derive(Drop)]
 pub struct Monitor {
     limits: Limits,
-    journal: EntryList,
+    journal: Journal,
     session: Session,
     running: Option<Request>,
     last_moment: u64,
@@ -51,17 +55,18 @@ impl Model for Monitor {
 }
 
 impl Monitor {
-    ghost use Rattle.qm_core.specs.declared.TheConstants.{MOST_ENTRIES};
+    ghost use Rattle.qm_core.specs.declared.TheConstants.{MOST_ENTRIES, MOST_TEXT};
     ghost use Rattle.qm_core.specs.declared.entries.StepFault.{StepFault};
-    ghost use Rattle.qm_core.specs.Kept.{HasPlace, IsFirstOpen, room_refusal};
+    ghost use Rattle.qm_core.specs.Kept.{IsFirstOpen};
 
     /// A monitor with an empty journal, which has its places.
     pub fn new(alloc: Global, limits: Limits) -> Result<Monitor, NoMemory>
         requires some { 1 ≤ limits.entries }
         requires few { limits.entries ≤ MOST_ENTRIES }
+        requires short { limits.text ≤ MOST_TEXT }
         ensures { IfOk result (λ monitor. monitor ≡ record { limits = limits; journal = [] }) }
     {
-        let journal = ReservedList::new(alloc, limits.entries as usize)?;
+        let journal = Journal::new(alloc, limits.entries as usize)?;
         Ok(Monitor {
             limits,
             journal,
@@ -76,7 +81,7 @@ impl Monitor {
         ensures entries { result.now.items ≡ self.now.journal }
         ensures legal { IsLegal self.now.journal }
     {
-        &self.journal
+        self.journal.entries()
     }
 
     /// What it may grow to.
@@ -124,8 +129,20 @@ impl Monitor {
         }
     }
 
+    /// Whether a line of the session did not fit into its outbox, so that it gets no line any more.
+    pub fn is_overrun(&self, session: u32) -> bool
+        ensures { result ≡ has_overrun session (past_of self.now.journal) }
+    {
+        if session == 1 {
+            self.session.overrun
+        } else {
+            false
+        }
+    }
+
     fn open_count(&self) -> u64
-        ensures { result ≡ open_count_of (past_of self.now.journal) }
+        ensures exact { result ≡ open_count_of (past_of self.now.journal) }
+        ensures few { result ≤ 1 }
     {
         if self.session.opened && !self.session.dropped {
             1
@@ -140,16 +157,6 @@ impl Monitor {
         let waiting = if self.session.waiting.is_some() { 1 } else { 0 };
         let running = if self.running.is_some() { 1 } else { 0 };
         waiting + running
-    }
-
-    fn room(&self) -> Result<(), StepFault>
-        ensures fault { result_err result ≡ room_refusal self.now }
-        ensures room { OnOk result (HasPlace self.now) }
-    {
-        if self.journal.len() as u64 + 1 + self.open_count() > self.limits.entries {
-            return Err(StepFault::JournalFull);
-        }
-        Ok(())
     }
 
     fn open_session(&self, session: u32) -> Result<(), StepFault>

@@ -65,6 +65,17 @@ impl Offer {
         self.owners.is_none()
     }
 
+    /// The input, which no admission has spent.
+    pub(crate) fn kept(&self) -> &Input
+        requires { IsSome self.now }
+        ensures { self.now ≡ Some result.now }
+    {
+        match &self.owners {
+            Some(owners) => &owners.kept,
+            None => unreachable!(),
+        }
+    }
+
     /// Moves both owners out.
     pub(crate) fn spend(&mut self) -> Owners
         requires { IsSome self.old }

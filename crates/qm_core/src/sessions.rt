@@ -15,12 +15,13 @@ pub(crate) struct Session {
     /// The request that was admitted and not started; a session has one at most.
     pub(crate) waiting: Option<Request>,
     pub(crate) outbox: Outbox,
+    /// Whether a line did not fit into the outbox. From then on the session gets no line.
+    pub(crate) overrun: bool,
 }
 
 impl Session {
-    ghost use Rattle.std.specs.Prelude.{◌≡◌, ◌&&◌, not, cond, [], ◌∷◌, ◌++◌, OnOk, OnErr};
-    ghost use Rattle.qm_caps.specs.declared.mode.Mode.TheVariants.{Command};
-    ghost use Rattle.qm_core.specs.Kept.{unopened};
+    ghost use Rattle.std.specs.Prelude.{◌≡◌, ◌&&◌, not, OnOk, OnErr};
+    ghost use Rattle.qm_core.specs.Kept.{answered, sent, unopened};
 
     /// A session that was not opened. It takes no memory.
     pub(crate) fn unopened(alloc: Global) -> Session
@@ -34,6 +35,7 @@ impl Session {
             mode: Mode::Negotiating,
             waiting: None,
             outbox: Outbox::new(alloc),
+            overrun: false,
         }
     }
 
@@ -44,22 +46,34 @@ impl Session {
         self.opened && !self.dropped
     }
 
-    /// Puts a reply's line into the outbox while the session is open, and opens the command mode
+    /// Puts a line into the outbox, where no line overran and this one fits. An error leaves the
+    /// session as it was.
+    pub(crate) fn send(&mut self, line: Shared<Text>) -> Result<(), NoMemory>
+        ensures ok { OnOk result (self.new ≡ sent self.old line) }
+        ensures err { OnErr result (self.new ≡ self.old) }
+    {
+        if self.overrun {
+            return Ok(());
+        }
+        if !self.outbox.fits(line.get()) {
+            self.overrun = true;
+            return Ok(());
+        }
+        self.outbox.put(line)
+    }
+
+    /// Sends a reply's line while the session is open, and opens the command mode
     /// where the reply does so. An error leaves it as it was.
     pub(crate) fn answer(
         &mut self,
         line: Shared<Text>,
         opens_commands: bool,
     ) -> Result<(), NoMemory>
-        ensures ok { OnOk result (self.new ≡ record self.old {
-          mode = cond opens_commands Command self.old.mode;
-          outbox = cond (self.old.opened && not self.old.dropped)
-              (self.old.outbox ++ line ∷ []) self.old.outbox;
-        }) }
+        ensures ok { OnOk result (self.new ≡ answered self.old line opens_commands) }
         ensures err { OnErr result (self.new ≡ self.old) }
     {
         if self.is_open() {
-            self.outbox.put(line)?;
+            self.send(line)?;
         }
         if opens_commands {
             self.mode = Mode::Command;

@@ -1,5 +1,6 @@
 pub mod FedLemmas
 pub mod LegalPlays
 pub mod LineLemmas
+pub mod OrderLemmas
 pub mod PutLemmas
 pub mod TurnLemmas

@@ -2,7 +2,8 @@
 use Rattle.std.specs.Prelude.{ℕ, List}
 use Rattle.qm_script.specs.Playing.{played_of}
 use Rattle.qm_core.specs.declared.entries.Entry.{Entry}
+use Rattle.qm_core.specs.declared.monitor.Limits.{Limits}
 
 -- the journal that a script plays
-abbrev pub journal_of : ℕ → List ℕ → List Entry
-journal_of entries script = (played_of entries script).played.journal
+abbrev pub journal_of : Limits → List ℕ → List Entry
+journal_of limits script = (played_of limits script).played.journal

@@ -1,21 +1,20 @@
 -- What a script plays (this project's own rule).
-use Rattle.std.specs.Prelude.{ℕ, ◌+◌, ◌-◌, ◌==◌, nat_lt, cond, List, [], ◌∷◌, ◌++◌, length, slice_get, unwrap_or, Option, Some, None, Result, Ok, Err}
+use Rattle.std.specs.Prelude.{ℕ, ◌+◌, ◌-◌, ◌^◌, ◌==◌, min, cond, List, [], ◌∷◌, ◌++◌, length, slice_get, unwrap_or, Option, Some, None, Result, Ok, Err}
 use Rattle.std.proofs.Math.ListN.{set}
 use Rattle.qm_core.specs.Legal.{past_of}
 use Rattle.qm_core.specs.Next.{refusal_of, entry_of, session_refusal}
 use Rattle.qm_core.specs.Next as step
 use Rattle.qm_core.specs.Standing.{sessions_of, admitted_of, running_of, named_of}
 use Rattle.qm_core.specs.Texts.{text_of}
-use Rattle.qm_core.specs.declared.entries.Cause.TheVariants as cause
 use Rattle.qm_core.specs.declared.entries.Entry.{Entry}
 use Rattle.qm_core.specs.declared.entries.StepFault.{StepFault}
 use Rattle.qm_core.specs.declared.inputs.Input.{Input}
+use Rattle.qm_core.specs.declared.monitor.Limits.{Limits}
 use Rattle.qm_core.specs.declared.requests.Started.{Started}
 use Rattle.qm_script.specs.Endings.{stop_of, closing_of}
 use Rattle.qm_script.specs.Fed.{fed_inputs_of}
 use Rattle.qm_script.specs.Lines.{lines_of}
-use Rattle.qm_script.specs.Orders.{order_of, fed_by}
-use Rattle.qm_script.specs.declared.TheConstants.{MOST_LINES}
+use Rattle.qm_script.specs.Orders.{order_of, fed_by, hex_bytes_of, is_skipped}
 use Rattle.qm_script.specs.declared.endings.Refused.{Refused}
 use Rattle.qm_script.specs.declared.endings.StepWord.TheVariants as word
 use Rattle.qm_script.specs.declared.endings.Stop.{Stop}
@@ -37,14 +36,14 @@ abbrev pub stepped : Played → Option StepFault → Entry → Result Played Sto
 stepped played None e = Ok record { journal = played.journal ++ e ∷ []; fed = played.fed }
 stepped played (Some fault) e = Err (stop_of fault)
 
-abbrev pub core_step : ℕ → Played → step.Step → Result Played Stop
-core_step entries played step = stepped played (refusal_of entries (past_of played.journal) step) (entry_of (past_of played.journal) step)
+abbrev pub core_step : Limits → Played → step.Step → Result Played Stop
+core_step limits played step = stepped played (refusal_of limits (past_of played.journal) step) (entry_of (past_of played.journal) step)
 
 -- an `open`, of which there is one
-abbrev pub open_step : ℕ → Played → Result Played Stop
-open_step entries played =
+abbrev pub open_step : Limits → Played → Result Played Stop
+open_step limits played =
     cond (length (sessions_of (past_of played.journal)) == 0)
-    (core_step entries record { journal = played.journal; fed = played.fed ++ [] ∷ [] } step.Open)
+    (core_step limits record { journal = played.journal; fed = played.fed ++ [] ∷ [] } step.Open)
     (Err BadLine)
 
 -- bytes for a session that was opened and not closed
@@ -53,55 +52,57 @@ fed_step played s bytes None = Ok record { journal = played.journal; fed = set p
 fed_step played s bytes (Some fault) = Err (stop_of fault)
 
 -- the next input of a session, if there is one
-abbrev pub input_step : ℕ → Played → ℕ → Option Input → Result Played Stop
-input_step entries played s None = Err (Step word.NoFrame)
-input_step entries played s (Some input) = core_step entries played (step.Admit s input)
+abbrev pub input_step : Limits → Played → ℕ → Option Input → Result Played Stop
+input_step limits played s None = Err (Step word.NoFrame)
+input_step limits played s (Some input) = core_step limits played (step.Admit s input)
 
-abbrev pub admit_step : ℕ → Played → ℕ → Option StepFault → Result Played Stop
-admit_step entries played s None =
-    input_step entries played s (slice_get (fed_inputs_of (fed_to s played.fed)) (admitted_of s (past_of played.journal)))
-admit_step entries played s (Some fault) = Err (stop_of fault)
+abbrev pub admit_step : Limits → Played → ℕ → Option StepFault → Result Played Stop
+admit_step limits played s None =
+    input_step limits played s (slice_get (fed_inputs_of (fed_to s played.fed)) (admitted_of s (past_of played.journal)))
+admit_step limits played s (Some fault) = Err (stop_of fault)
 
-abbrev pub finish_step : ℕ → Played → ℕ → Option Started → Result Played Stop
-finish_step entries played moment None = Err (Step word.NotRunning)
-finish_step entries played moment (Some request) = core_step entries played (step.Finish request.session request.number moment)
+abbrev pub finish_step : Limits → Played → ℕ → Option Started → Result Played Stop
+finish_step limits played moment None = Err (Step word.NotRunning)
+finish_step limits played moment (Some request) = core_step limits played (step.Finish request.session request.number moment)
 
 -- what an order does; the line is that of the order
-abbrev pub ordered : ℕ → Played → List ℕ → Option Order → Result Played Stop
-ordered entries played line None = Err BadLine
-ordered entries played line (Some order.Open) = open_step entries played
-ordered entries played line (Some (order.Text s)) = fed_step played s (fed_by line ++ 10 ∷ []) (session_refusal s (past_of played.journal) None)
-ordered entries played line (Some (order.Admit s)) = admit_step entries played s (session_refusal s (past_of played.journal) None)
-ordered entries played line (Some order.Start) = core_step entries played step.Start
-ordered entries played line (Some (order.Finish moment)) = finish_step entries played moment (named_of (running_of (past_of played.journal)))
-ordered entries played line (Some (order.Take s)) = core_step entries played (step.Take s)
-ordered entries played line (Some (order.Eof s)) = core_step entries played (step.End s)
-ordered entries played line (Some (order.DropEnded s)) = core_step entries played (step.Drop s cause.Ended)
+abbrev pub ordered : Limits → Played → List ℕ → Option Order → Result Played Stop
+ordered limits played line None = Err BadLine
+ordered limits played line (Some order.Open) = open_step limits played
+ordered limits played line (Some (order.Text s)) = fed_step played s (fed_by line ++ 10 ∷ []) (session_refusal s (past_of played.journal) None)
+ordered limits played line (Some (order.Feed s)) = fed_step played s (hex_bytes_of (fed_by line)) (session_refusal s (past_of played.journal) None)
+ordered limits played line (Some (order.Admit s)) = admit_step limits played s (session_refusal s (past_of played.journal) None)
+ordered limits played line (Some order.Start) = core_step limits played step.Start
+ordered limits played line (Some (order.Finish moment)) = finish_step limits played moment (named_of (running_of (past_of played.journal)))
+ordered limits played line (Some (order.Take s)) = core_step limits played (step.Take s)
+ordered limits played line (Some (order.Eof s)) = core_step limits played (step.End s)
+ordered limits played line (Some (order.Drop s cause)) = core_step limits played (step.Drop s cause)
 
--- what the line of this number does
-abbrev pub line_step : ℕ → ℕ → Played → List ℕ → Result Played Stop
-line_step entries n played line = cond (nat_lt MOST_LINES n) (Err BadLine) (ordered entries played line (order_of line))
+-- what a line does; empty lines and comments do nothing
+abbrev pub line_step : Limits → Played → List ℕ → Result Played Stop
+line_step limits played line = cond (is_skipped line) (Ok played) (ordered limits played line (order_of line))
 
 -- what was played in the end, and the line that was refused, if one was
 pub record Ended : Type 0 where
   pub played : Played
   pub refused : Option Refused
 
+-- the number of a refused line is told as far as 32 bits tell it
 abbrev pub after_line : ℕ → Played → Result Played Stop → (Played → Ended) → Ended
 after_line n played (Ok next) go = go next
-after_line n played (Err stop) go = record { played = played; refused = Some record { line = n; stop = stop } }
+after_line n played (Err stop) go = record { played = played; refused = Some record { line = min n (2 ^ 32 - 1); stop = stop } }
 
 -- the lines from this number on, up to the first that is refused
-abbrev pub played_from : ℕ → ℕ → Played → List (List ℕ) → Ended
-played_from entries n played [] = record { played = played; refused = None }
-played_from entries n played (line ∷ lines) = after_line n played (line_step entries n played line) (λ next. played_from entries (n + 1) next lines)
+abbrev pub played_from : Limits → ℕ → Played → List (List ℕ) → Ended
+played_from limits n played [] = record { played = played; refused = None }
+played_from limits n played (line ∷ lines) = after_line n played (line_step limits played line) (λ next. played_from limits (n + 1) next lines)
 
 abbrev pub nothing_played : Played
 nothing_played = record { journal = []; fed = [] }
 
 -- what a script plays
-abbrev pub played_of : ℕ → List ℕ → Ended
-played_of entries script = played_from entries 1 nothing_played (lines_of script)
+abbrev pub played_of : Limits → List ℕ → Ended
+played_of limits script = played_from limits 1 nothing_played (lines_of script)
 
 -- the transcript: the text of the journal, and the closing line
 abbrev pub transcript_text_of : Ended → List ℕ

@@ -4,6 +4,7 @@
 mod closings;
 pub mod endings;
 mod feeder;
+mod hex;
 pub mod laws;
 mod lines;
 pub mod orders;
@@ -13,6 +14,3 @@ mod replays;
 pub use endings::{PlayEnd, Refused, StepWord, Stop};
 pub use orders::Order;
 pub use replays::play;
-
-/// How many lines a script may have.
-pub const MOST_LINES: u32 = 10_000;

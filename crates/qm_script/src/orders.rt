@@ -1,10 +1,12 @@
 ghost use Rattle.std.specs.Prelude.{◌≡◌, ◌<◌, ◌≤◌, ◌^◌, length, position, IfSome, option_map, codes, Option, Some};
 ghost use Rattle.std.specs.Option.{option_copied, option_and_then};
-ghost use Rattle.qm_script.specs.Orders.{after_word as after_word_of, before_blank as before_blank_of, after_blank as after_blank_of, is_blank, is_end as is_end_of, is_id as is_id_of, is_request_of, is_plain as is_plain_of, session_number, session_after as session_after_of, long_order_of, text_order as text_order_of, drop_order as drop_order_of, order_of, fed_by as fed_by_of};
+ghost use Rattle.qm_script.specs.Orders.{after_word as after_word_of, before_blank as before_blank_of, after_blank as after_blank_of, is_blank, session_number, session_after as session_after_of, long_order_of, text_order as text_order_of, feed_order as feed_order_of, drop_order as drop_order_of, order_of, is_skipped as is_skipped_line, fed_by as fed_by_of};
 ghost use Rattle.qm_script.specs.declared.orders.Order.TheVariants.{Admit, Finish, Take, Eof};
 ghost use Rattle.qm_base.specs.Numerals.{number_of};
 
+use crate::hex::is_hex;
 use qm_base::number;
+use qm_core::Cause;
 
 /// What a line of a script orders.
 #[derive(Clone, Copy, Debug, PartialEq, Eq)]
@@ -13,6 +15,8 @@ pub enum Order {
     Open,
     /// `text S REST`: feeds REST and LF to a session.
     Text(u32),
+    /// `feed S HEX`: feeds the bytes that pairs of hexadecimal digits write to a session.
+    Feed(u32),
     /// `admit S`: admits the next input of a session.
     Admit(u32),
     /// `start`: starts a request.
@@ -23,8 +27,8 @@ pub enum Order {
     Take(u32),
     /// `eof S`: ends the input of a session.
     Eof(u32),
-    /// `drop S ended`: closes a session that is drained.
-    DropEnded(u32),
+    /// `drop S CAUSE`: closes a session for a cause.
+    Drop(u32, Cause),
 }
 
 fn after_word<'a>(word: &[u8], line: &'a [u8]) -> Option<&'a [u8]>
@@ -43,15 +47,6 @@ fn session(text: &[u8]) -> Option<u32>
     match number(text) {
         Some(n) if n < 0x1_0000_0000 => Some(n as u32),
         _ => None,
-    }
-}
-
-fn is_id(text: &[u8]) -> bool
-    ensures { result ≡ is_id_of text.now }
-{
-    match number(text) {
-        Some(n) => n < 0x8000_0000_0000_0000,
-        None => false,
     }
 }
 
@@ -80,59 +75,39 @@ fn after_blank(text: &[u8]) -> &[u8]
     }
 }
 
-fn is_end(text: &[u8]) -> bool
-    ensures { result ≡ is_end_of text.now }
-{
-    if text == b"}".as_slice() {
-        return true;
-    }
-    match after_word(b",\"id\":", text) {
-        Some(rest) => rest.ends_with(b"}") && is_id(&rest[..rest.len() - 1]),
-        None => false,
-    }
-}
-
-fn is_request(front: &[u8], text: &[u8]) -> bool
-    ensures { result ≡ is_request_of front.now text.now }
-{
-    match after_word(front, text) {
-        Some(rest) => is_end(rest),
-        None => false,
-    }
-}
-
-fn is_plain(text: &[u8]) -> bool
-    ensures { result ≡ is_plain_of text.now }
-{
-    if is_request(b"{\"execute\":\"qmp_capabilities\"", text) {
-        return true;
-    }
-    is_request(b"{\"execute\":\"query-version\"", text)
-}
-
 fn text_order(text: &[u8]) -> Option<Order>
     ensures { result ≡ text_order_of text.now }
 {
-    if is_plain(after_blank(text)) {
-        match session(before_blank(text)) {
-            Some(session) => Some(Order::Text(session)),
-            None => None,
-        }
-    } else {
-        None
+    if blank_at(text).is_none() {
+        return None;
+    }
+    match session(before_blank(text)) {
+        Some(session) => Some(Order::Text(session)),
+        None => None,
+    }
+}
+
+fn feed_order(text: &[u8]) -> Option<Order>
+    ensures { result ≡ feed_order_of text.now }
+{
+    if !is_hex(after_blank(text)) {
+        return None;
+    }
+    match session(before_blank(text)) {
+        Some(session) => Some(Order::Feed(session)),
+        None => None,
     }
 }
 
 fn drop_order(text: &[u8]) -> Option<Order>
     ensures { result ≡ drop_order_of text.now }
 {
-    if after_blank(text) == b"ended".as_slice() {
-        match session(before_blank(text)) {
-            Some(session) => Some(Order::DropEnded(session)),
+    match session(before_blank(text)) {
+        Some(session) => match Cause::of_word(after_blank(text)) {
+            Some(cause) => Some(Order::Drop(session, cause)),
             None => None,
-        }
-    } else {
-        None
+        },
+        None => None,
     }
 }
 
@@ -150,6 +125,15 @@ fn text_line(line: &[u8]) -> Option<Order>
 {
     match after_word(b"text ", line) {
         Some(text) => text_order(text),
+        None => None,
+    }
+}
+
+fn feed_line(line: &[u8]) -> Option<Order>
+    ensures { result ≡ option_and_then feed_order_of (after_word_of (codes "feed ") line.now) }
+{
+    match after_word(b"feed ", line) {
+        Some(text) => feed_order(text),
         None => None,
     }
 }
@@ -205,9 +189,9 @@ fn eof_line(line: &[u8]) -> Option<Order>
 fn long_order(line: &[u8]) -> Option<Order>
     ensures { result ≡ long_order_of line.now }
 {
-    text_line(line).or(admit_line(line).or(finish_line(line).or(take_line(line).or(eof_line(
+    text_line(line).or(feed_line(line).or(admit_line(line).or(finish_line(line).or(take_line(
         line,
-    ).or(drop_line(line))))))
+    ).or(eof_line(line).or(drop_line(line)))))))
 }
 
 /// The order of a line of a script; None for any other line.
@@ -223,7 +207,14 @@ pub fn order_of_line(line: &[u8]) -> Option<Order>
     long_order(line)
 }
 
-/// The text that a `text` line feeds: what follows its session number and a blank.
+/// Whether a line is empty or a comment.
+pub fn is_skipped(line: &[u8]) -> bool
+    ensures { result ≡ is_skipped_line line.now }
+{
+    line.is_empty() || line.starts_with(b"#")
+}
+
+/// What follows the session number of a `text` or a `feed` line and a blank.
 pub fn fed_by(line: &[u8]) -> &[u8]
     ensures { result.now ≡ fed_by_of line.now }
 {

@@ -3,18 +3,17 @@ ghost use Rattle.qm_core.specs.Legal.{past_of};
 ghost use Rattle.qm_core.specs.Next.{Start, Take, End, Drop, session_refusal};
 ghost use Rattle.qm_core.specs.Next as step;
 ghost use Rattle.qm_core.specs.Standing.{admitted_of, named_of, running_of, was_opened};
-ghost use Rattle.qm_core.specs.declared.TheConstants.{MOST_ENTRIES};
-ghost use Rattle.qm_core.specs.declared.entries.Cause.TheVariants as cause;
+ghost use Rattle.qm_core.specs.declared.TheConstants.{MOST_ENTRIES, MOST_TEXT};
 ghost use Rattle.qm_core.specs.Inputs.{IsCleanInput};
 ghost use Rattle.qm_script.specs.Fed.{fed_inputs_of};
 ghost use Rattle.qm_script.specs.Endings.{stop_of as stop_of_fault};
-ghost use Rattle.qm_script.specs.Orders.{fed_by as fed_by_of, order_of};
+ghost use Rattle.qm_script.specs.Orders.{fed_by as fed_by_of, hex_bytes_of, order_of};
 ghost use Rattle.qm_script.specs.Playing.{nothing_played, core_step, open_step, fed_step, admit_step, fed_to, finish_step, ordered, line_step};
 
-use crate::MOST_LINES;
 use crate::endings::{StepWord, Stop};
 use crate::feeder::Feeder;
-use crate::orders::{Order, fed_by, order_of_line};
+use crate::hex::hex_bytes;
+use crate::orders::{Order, fed_by, is_skipped, order_of_line};
 use qm_base::NoMemory;
 use qm_core::{Cause, EntryList, Input, Limits, Monitor, Offer, StepFault};
 use std::alloc::Global;
@@ -77,7 +76,8 @@ impl Player {
     pub fn new(alloc: Global, limits: Limits) -> Result<Player, NoMemory>
         requires some { 1 ≤ limits.entries }
         requires few { limits.entries ≤ MOST_ENTRIES }
-        ensures { IfOk result (λ player. player ≡ record { entries = limits.entries; played = nothing_played }) }
+        requires short { limits.text ≤ MOST_TEXT }
+        ensures { IfOk result (λ player. player ≡ record { limits = limits; played = nothing_played }) }
     {
         let monitor = Monitor::new(alloc, limits)?;
         Ok(Player {
@@ -112,7 +112,7 @@ impl Player {
     }
 
     fn open(mut self, alloc: Global) -> Result<Turn, NoMemory>
-        ensures { IfOk result (Turns self (open_step self.entries self.played)) }
+        ensures { IfOk result (Turns self (open_step self.limits self.played)) }
     {
         if self.feeder.is_some() {
             return Ok(self.refused(Stop::BadLine));
@@ -128,8 +128,14 @@ impl Player {
         }
     }
 
-    fn text(self, alloc: Global, session: u32, line: &[u8]) -> Result<Turn, NoMemory>
-        ensures { IfOk result (Turns self (fed_step self.played session (fed_by_of line.now ++ 10 ∷ [])
+    fn feed(
+        self,
+        alloc: Global,
+        session: u32,
+        bytes: &[u8],
+        ending: &[u8],
+    ) -> Result<Turn, NoMemory>
+        ensures { IfOk result (Turns self (fed_step self.played session (bytes.now ++ ending.now)
             (session_refusal session (past_of self.played.journal) None))) }
     {
         if !self.monitor.is_known(session) {
@@ -140,13 +146,21 @@ impl Player {
         }
         let Player { monitor, feeder } = self;
         let Some(feeder) = feeder else { unreachable!() };
-        let feeder = feeder.fed(alloc, fed_by(line))?;
-        let feeder = feeder.fed(alloc, b"\n")?;
+        let feeder = feeder.fed(alloc, bytes)?;
+        let feeder = feeder.fed(alloc, ending)?;
         let player = Player {
             monitor,
             feeder: Some(feeder),
         };
         Ok(player.stepped())
+    }
+
+    fn feed_hex(self, alloc: Global, session: u32, text: &[u8]) -> Result<Turn, NoMemory>
+        ensures { IfOk result (Turns self (fed_step self.played session (hex_bytes_of text.now)
+            (session_refusal session (past_of self.played.journal) None))) }
+    {
+        let bytes = hex_bytes(alloc, text)?;
+        self.feed(alloc, session, bytes.as_slice(), b"")
     }
 
     fn next_input(&self, session: u32) -> Result<Option<Input>, NoMemory>
@@ -163,7 +177,7 @@ impl Player {
 
     fn admit_input(mut self, alloc: Global, session: u32, input: Input) -> Result<Turn, NoMemory>
         requires { IsCleanInput input }
-        ensures { IfOk result (Turns self (core_step self.entries self.played (step.Admit session input))) }
+        ensures { IfOk result (Turns self (core_step self.limits self.played (step.Admit session input))) }
     {
         let mut offer = Offer::of(alloc, input)?;
         match self.monitor.admit(session, &mut offer) {
@@ -173,7 +187,7 @@ impl Player {
     }
 
     fn admit(self, alloc: Global, session: u32) -> Result<Turn, NoMemory>
-        ensures { IfOk result (Turns self (admit_step self.entries self.played session
+        ensures { IfOk result (Turns self (admit_step self.limits self.played session
             (session_refusal session (past_of self.played.journal) None))) }
     {
         if !self.monitor.is_known(session) {
@@ -189,7 +203,7 @@ impl Player {
     }
 
     fn start(mut self) -> Turn
-        ensures { Turns self (core_step self.entries self.played Start) result }
+        ensures { Turns self (core_step self.limits self.played Start) result }
     {
         match self.monitor.start() {
             Ok(_) => self.stepped(),
@@ -198,7 +212,7 @@ impl Player {
     }
 
     fn finish(mut self, alloc: Global, moment: u64) -> Result<Turn, NoMemory>
-        ensures { IfOk result (Turns self (finish_step self.entries self.played moment
+        ensures { IfOk result (Turns self (finish_step self.limits self.played moment
             (named_of (running_of (past_of self.played.journal))))) }
     {
         let Some(request) = self.monitor.running() else {
@@ -215,7 +229,7 @@ impl Player {
     }
 
     fn take(mut self, session: u32) -> Turn
-        ensures { Turns self (core_step self.entries self.played (Take session)) result }
+        ensures { Turns self (core_step self.limits self.played (Take session)) result }
     {
         match self.monitor.take(session) {
             Ok(_) => self.stepped(),
@@ -224,7 +238,7 @@ impl Player {
     }
 
     fn end(mut self, session: u32) -> Turn
-        ensures { Turns self (core_step self.entries self.played (End session)) result }
+        ensures { Turns self (core_step self.limits self.played (End session)) result }
     {
         match self.monitor.end(session) {
             Ok(()) => self.stepped(),
@@ -232,36 +246,37 @@ impl Player {
         }
     }
 
-    fn drop_ended(mut self, session: u32) -> Turn
-        ensures { Turns self (core_step self.entries self.played (Drop session cause.Ended)) result }
+    fn drop_session(mut self, session: u32, cause: Cause) -> Turn
+        ensures { Turns self (core_step self.limits self.played (Drop session cause)) result }
     {
-        match self.monitor.drop_session(session, Cause::Ended) {
+        match self.monitor.drop_session(session, cause) {
             Ok(()) => self.stepped(),
             Err(fault) => self.refused(stop_of(fault)),
         }
     }
 
     fn ordered(self, alloc: Global, order: Order, line: &[u8]) -> Result<Turn, NoMemory>
-        ensures { IfOk result (Turns self (ordered self.entries self.played line.now (Some order))) }
+        ensures { IfOk result (Turns self (ordered self.limits self.played line.now (Some order))) }
     {
         match order {
             Order::Open => self.open(alloc),
-            Order::Text(session) => self.text(alloc, session, line),
+            Order::Text(session) => self.feed(alloc, session, fed_by(line), b"\n"),
+            Order::Feed(session) => self.feed_hex(alloc, session, fed_by(line)),
             Order::Admit(session) => self.admit(alloc, session),
             Order::Start => Ok(self.start()),
             Order::Finish(moment) => self.finish(alloc, moment),
             Order::Take(session) => Ok(self.take(session)),
             Order::Eof(session) => Ok(self.end(session)),
-            Order::DropEnded(session) => Ok(self.drop_ended(session)),
+            Order::Drop(session, cause) => Ok(self.drop_session(session, cause)),
         }
     }
 
-    /// Plays the line of this number, from 1 on.
-    pub fn line(self, alloc: Global, number: u32, line: &[u8]) -> Result<Turn, NoMemory>
-        ensures { IfOk result (Turns self (line_step self.entries number self.played line.now)) }
+    /// Plays a line.
+    pub fn line(self, alloc: Global, line: &[u8]) -> Result<Turn, NoMemory>
+        ensures { IfOk result (Turns self (line_step self.limits self.played line.now)) }
     {
-        if number > MOST_LINES {
-            return Ok(self.refused(Stop::BadLine));
+        if is_skipped(line) {
+            return Ok(self.stepped());
         }
         match order_of_line(line) {
             Some(order) => self.ordered(alloc, order, line),

@@ -1,8 +1,8 @@
-ghost use Rattle.std.specs.Prelude.{◌≡◌, ◌≢◌, ◌≤◌, ◌++◌, IfOk, Err, length};
+ghost use Rattle.std.specs.Prelude.{◌≡◌, ◌≢◌, ◌≤◌, ◌++◌, ◌-◌, ◌^◌, min, IfOk, Err, length};
 ghost use Rattle.qm_base.specs.Faults.{Puts, Rose};
 ghost use Rattle.qm_core.specs.Texts.{text_of};
 ghost use Rattle.qm_script.specs.Endings.{closing_of};
-ghost use Rattle.qm_core.specs.declared.TheConstants.{MOST_ENTRIES};
+ghost use Rattle.qm_core.specs.declared.TheConstants.{MOST_ENTRIES, MOST_TEXT};
 ghost use Rattle.qm_script.specs.Lines.{lines_of};
 ghost use Rattle.qm_script.specs.Playing.{played_from, played_of};
 ghost use Rattle.qm_script.specs.Plays.{Plays};
@@ -27,18 +27,27 @@ pub struct Finished {
     pub refused: Option<Refused>,
 }
 
+fn told_number(number: u64) -> u32
+    ensures { result ≡ min number (2 ^ 32 - 1) }
+{
+    number.min(u32::MAX as u64) as u32
+}
+
 fn run(alloc: Global, player: Player, script: &[u8]) -> Result<Finished, NoMemory>
-    ensures { IfOk result (Finishes (played_from player.entries 1 player.played (lines_of script.now))) }
+    ensures { IfOk result (Finishes (played_from player.limits 1 player.played (lines_of script.now))) }
 {
     let mut player = player;
     let mut rest = script;
-    let mut number = 0u32;
+    let mut number = 0u64;
     while rest.len() > 0 {
         let (line, later) = first_line(rest);
         number += 1;
-        let Turn { player: next, stop } = player.line(alloc, number, line)?;
+        let Turn { player: next, stop } = player.line(alloc, line)?;
         if let Some(stop) = stop {
-            let refused = Refused { line: number, stop };
+            let refused = Refused {
+                line: told_number(number),
+                stop,
+            };
             return Ok(Finished {
                 player: next,
                 refused: Some(refused),
@@ -92,7 +101,8 @@ fn put_transcript<S: Sink>(
 fn replayed(alloc: Global, limits: Limits, script: &[u8]) -> Result<Finished, NoMemory>
     requires some { 1 ≤ limits.entries }
     requires few { limits.entries ≤ MOST_ENTRIES }
-    ensures { IfOk result (Finishes (played_of limits.entries script.now)) }
+    requires short { limits.text ≤ MOST_TEXT }
+    ensures { IfOk result (Finishes (played_of limits script.now)) }
 {
     let player = Player::new(alloc, limits)?;
     run(alloc, player, script)
@@ -103,7 +113,8 @@ fn replayed(alloc: Global, limits: Limits, script: &[u8]) -> Result<Finished, No
 pub fn play<S: Sink>(alloc: Global, limits: Limits, script: &[u8], sink: &mut S) -> PlayEnd
     requires some { 1 ≤ limits.entries }
     requires few { limits.entries ≤ MOST_ENTRIES }
-    ensures { Plays (played_of limits.entries script.now) record {
+    requires short { limits.text ≤ MOST_TEXT }
+    ensures { Plays (played_of limits script.now) record {
       held = S.contents sink.old;
       holds = S.contents sink.new;
       before = S.faults sink.old;

@@ -8,6 +8,7 @@ use Rattle.qm_script.specs.declared.endings.PlayEnd.{PlayEnd}
 use Rattle.qm_script.specs.declared.endings.PlayEnd.TheVariants as end
 use Rattle.qmpd.specs.Answers.{Ran, Ends, Answers}
 use Rattle.qmpd.specs.Output.{run_with, answer_of, end_status_of, cannot_read}
+use Rattle.qmpd.specs.Words.{Replay}
 
 told_more-nothing : (told : Option (List ℕ)) → told ≡ told_more told []
 told_more-nothing None = refl
@@ -24,12 +25,12 @@ no_usage (end.Full line) = λ h. cc
 no_usage end.SinkFault = λ h. cc
 no_usage end.Memory = λ h. cc
 
-only_usage : (script answer : Option (List ℕ)) → (run_with script answer).status ≡ 2 → script ≡ None
+only_usage : (script : Option Replay) (answer : Option (List ℕ)) → (run_with script answer).status ≡ 2 → script ≡ None
 only_usage None answer two = refl
 only_usage (Some name) None two = cc
 only_usage (Some name) (Some text) two = absurd (no_usage _ two)
 
-status_of-none : (script answer : Option (List ℕ)) → script ≡ None → (run_with script answer).status ≡ 2
+status_of-none : (script : Option Replay) (answer : Option (List ℕ)) → script ≡ None → (run_with script answer).status ≡ 2
 status_of-none None answer none = refl
 status_of-none (Some name) answer none = absurd (cc)
 
@@ -41,28 +42,30 @@ no_unread (end.Full line) = λ h. cc
 no_unread end.SinkFault = λ h. cc
 no_unread end.Memory = λ h. cc
 
-never_unread : (script answer : Option (List ℕ)) → (run_with script answer).status ≢ 6
+never_unread : (script : Option Replay) (answer : Option (List ℕ)) → (run_with script answer).status ≢ 6
 never_unread None answer = λ h. cc
 never_unread (Some name) None = λ h. cc
 never_unread (Some name) (Some text) = no_unread _
 
 -- the library did not fail
 pub done : (ran : Ran) (status : ℕ) (answer : Option (List ℕ)) →
-    ((files : List NamedText) → ran.files ≡ Some files → answer ≡ answer_of ran.script files) →
+    ((files : List NamedText) → ran.files ≡ Some files → answer ≡ answer_of ran.replay files) →
     ran.library_now ≡ ran.library_before →
-    Ends (run_with ran.script answer).bytes (run_with ran.script answer).status ran.sink status → Answers ran status
+    Ends (run_with ran.replay answer).bytes (run_with ran.replay answer).status ran.sink status → Answers ran status
 done ran status answer told kept ends =
-    let six : status ≢ 6 = λ e. never_unread ran.script answer (sym (ends.status_is (λ h. cc) (λ h. cc)) ∙ e) in
+    let six : status ≢ 6 = λ e. never_unread ran.replay answer (sym (ends.status_is (λ h. cc) (λ h. cc)) ∙ e) in
     record {
       answer = answer;
       told = told;
       status_is = λ one _ seven. ends.status_is one seven;
       bytes_are = λ one _ seven. ends.whole one seven;
       wanting = λ one. ends.part_at_memory one;
-      usage_only = λ two. only_usage ran.script answer (sym (ends.status_is (λ e. cc) (λ e. cc)) ∙ two);
-      usage = λ none one seven. ends.status_is one seven ∙ status_of-none ran.script answer none;
+      usage_only = λ two. only_usage ran.replay answer (sym (ends.status_is (λ e. cc) (λ e. cc)) ∙ two);
+      usage = λ none one seven. ends.status_is one seven ∙ status_of-none ran.replay answer none;
       refused_only = λ five. sym (ends.status_is (λ e. cc) (λ e. cc)) ∙ five;
       refused = λ five one _ seven. ends.status_is one seven ∙ five;
+      full_only = λ nine. sym (ends.status_is (λ e. cc) (λ e. cc)) ∙ nine;
+      full = λ nine one _ seven. ends.status_is one seven ∙ nine;
       library_failed = λ e. absurd (six e);
       library_line = λ name named e. absurd (six e);
       library_kept = λ _ _ _. kept;
@@ -72,23 +75,23 @@ done ran status answer told kept ends =
     }
 
 -- what files that are told answer, or nothing
-told_answer : Option (List NamedText) → Option (List ℕ) → Option (List ℕ)
+told_answer : Option (List NamedText) → Option Replay → Option (List ℕ)
 told_answer files script = option_and_then (λ told. answer_of script told) files
 
-told_answer-is : (files : Option (List NamedText)) (script : Option (List ℕ)) (told : List NamedText) → files ≡ Some told → told_answer files script ≡ answer_of script told
+told_answer-is : (files : Option (List NamedText)) (script : Option Replay) (told : List NamedText) → files ≡ Some told → told_answer files script ≡ answer_of script told
 unfolding told_answer
 told_answer-is None script told e = cc
 told_answer-is (Some others) script told e = (let same : others ≡ told = cc in ap (λ (f : List NamedText). answer_of script f) same)
 
 -- reading the script failed
-pub unread : (ran : Ran) (status : ℕ) (name : List ℕ) → ran.script ≡ Some name → Rose ran.library_before ran.library_now →
-    Ends (cannot_read name) 6 ran.sink status → (status ≡ 1 → ran.sink.holds ≡ ran.sink.held) → Answers ran status
+pub unread : (ran : Ran) (status : ℕ) (name : Replay) → ran.replay ≡ Some name → Rose ran.library_before ran.library_now →
+    Ends (cannot_read name.script) 6 ran.sink status → (status ≡ 1 → ran.sink.holds ≡ ran.sink.held) → Answers ran status
 unread ran status name named rose ends nothing =
     let six : status ≢ 1 → status ≢ 7 → status ≡ 6 = λ one seven. ends.status_is one seven in
-    let same : (other : List ℕ) → ran.script ≡ Some other → name ≡ other = λ other e. (let h : Some name ≡ Some other = sym named ∙ e in cc) in
+    let same : (other : Replay) → ran.replay ≡ Some other → name ≡ other = λ other e. (let h : Some name ≡ Some other = sym named ∙ e in cc) in
     record {
-      answer = told_answer ran.files ran.script;
-      told = λ files e. told_answer-is ran.files ran.script files e;
+      answer = told_answer ran.files ran.replay;
+      told = λ files e. told_answer-is ran.files ran.replay files e;
       status_is = λ one not_six seven. absurd (not_six (six one seven));
       bytes_are = λ one not_six seven. absurd (not_six (six one seven));
       wanting = λ one. holds_nothing _ _ _ (nothing one);
@@ -96,19 +99,21 @@ unread ran status name named rose ends nothing =
       usage = λ none. absurd (let e : None ≡ Some name = sym none ∙ named in cc);
       refused_only = λ five. absurd (let e : 5 ≡ 6 = sym five ∙ six (λ e. cc) (λ e. cc) in cc);
       refused = λ _ one not_six seven. absurd (not_six (six one seven));
+      full_only = λ nine. absurd (let e : 9 ≡ 6 = sym nine ∙ six (λ e. cc) (λ e. cc) in cc);
+      full = λ _ one not_six seven. absurd (not_six (six one seven));
       library_failed = λ _. rose;
-      library_line = λ other e status_six. ends.whole (λ h. cc) (λ h. cc) ∙ ap (λ (n : List ℕ). told_more ran.sink.held (cannot_read n)) (same other e);
+      library_line = λ other e status_six. ends.whole (λ h. cc) (λ h. cc) ∙ ap (λ (r : Replay). told_more ran.sink.held (cannot_read r.script)) (same other e);
       library_kept = λ one not_six seven. absurd (not_six (six one seven));
       sink_failed = λ seven. ends.failed seven;
       sink_kept = λ other. ends.kept other;
-      sink_part = λ seven. inr record { name = name; asked = named; rose = rose; part = ends.part_at_fault seven };
+      sink_part = λ seven. inr record { replay = name; asked = named; rose = rose; part = ends.part_at_fault seven };
     }
 
 -- memory was wanting before anything was put
 pub wanted_memory : (ran : Ran) → ran.library_now ≡ ran.library_before → ran.sink.now ≡ ran.sink.before → ran.sink.holds ≡ ran.sink.held → Answers ran 1
 wanted_memory ran kept still nothing = record {
-  answer = told_answer ran.files ran.script;
-  told = λ files e. told_answer-is ran.files ran.script files e;
+  answer = told_answer ran.files ran.replay;
+  told = λ files e. told_answer-is ran.files ran.replay files e;
   status_is = λ one. absurd (one refl);
   bytes_are = λ one. absurd (one refl);
   wanting = λ _. holds_nothing _ _ _ nothing;
@@ -116,6 +121,8 @@ wanted_memory ran kept still nothing = record {
   usage = λ _ one. absurd (one refl);
   refused_only = λ e. absurd (cc);
   refused = λ _ one. absurd (one refl);
+  full_only = λ e. absurd (cc);
+  full = λ _ one. absurd (one refl);
   library_failed = λ e. absurd (cc);
   library_line = λ _ _ e. absurd (cc);
   library_kept = λ _ _ _. kept;

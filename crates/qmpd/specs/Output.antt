@@ -1,12 +1,13 @@
 -- What the program puts out, and its status, for words and files (this project's own rule).
 use Rattle.std.specs.Prelude.{ℕ, List, ◌++◌, codes, Option, Some, None}
 use Rattle.qapi_load.specs.Files.{NamedText, text_of}
-use Rattle.qm_core.specs.declared.TheConstants.{MOST_ENTRIES}
+use Rattle.qm_core.specs.declared.TheConstants.{MOST_TEXT}
+use Rattle.qm_core.specs.declared.monitor.Limits.{Limits}
 use Rattle.qm_script.specs.Playing.{Ended, played_of, transcript_text_of}
 use Rattle.qm_script.specs.Endings.{end_of}
 use Rattle.qm_script.specs.declared.endings.PlayEnd.{PlayEnd}
 use Rattle.qm_script.specs.declared.endings.PlayEnd.TheVariants as end
-use Rattle.qmpd.specs.Words.{script_of}
+use Rattle.qmpd.specs.Words.{Replay, replay_of}
 
 pub record Output : Type 0 where
   pub status : ℕ
@@ -35,23 +36,27 @@ end_status_of end.Memory = 1
 abbrev pub replayed : Ended → Output
 replayed ended = record { status = end_status_of (end_of ended.refused); bytes = transcript_text_of ended }
 
-abbrev pub replay_of : List ℕ → Option (List ℕ) → Output
-replay_of name None = missing name
-replay_of name (Some script) = replayed (played_of MOST_ENTRIES script)
+-- the limits of a journal of so many entries
+abbrev pub limits_of : ℕ → Limits
+limits_of entries = record { entries = entries; text = MOST_TEXT }
+
+abbrev pub replay_with : Replay → Option (List ℕ) → Output
+replay_with replay None = missing replay.script
+replay_with replay (Some script) = replayed (played_of (limits_of replay.entries) script)
 
 -- the output for a script to be replayed, by what the library answers for it
-abbrev pub run_with : Option (List ℕ) → Option (List ℕ) → Output
+abbrev pub run_with : Option Replay → Option (List ℕ) → Output
 run_with None answer = usage
-run_with (Some name) answer = replay_of name answer
+run_with (Some replay) answer = replay_with replay answer
 
 -- what files answer for the script
-abbrev pub answer_of : Option (List ℕ) → List NamedText → Option (List ℕ)
+abbrev pub answer_of : Option Replay → List NamedText → Option (List ℕ)
 answer_of None files = None
-answer_of (Some name) files = text_of name files
+answer_of (Some replay) files = text_of replay.script files
 
 -- the status and the bytes for words and files
 abbrev pub output_of : List (List ℕ) → List NamedText → Output
-output_of words files = run_with (script_of words) (answer_of (script_of words) files)
+output_of words files = run_with (replay_of words) (answer_of (replay_of words) files)
 
 -- the line that names a file whose reading failed
 abbrev pub cannot_read : List ℕ → List ℕ

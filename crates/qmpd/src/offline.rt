@@ -1,14 +1,14 @@
-ghost use Rattle.std.specs.Prelude.{◌≡◌, ◌≢◌, ◌++◌, IfOk, Some, None, codes, map, string_bytes};
+ghost use Rattle.std.specs.Prelude.{◌≡◌, ◌≢◌, ◌≤◌, ◌++◌, IfOk, Some, None, codes, map, string_bytes};
 ghost use Rattle.qmpd.specs.Answers.{Answers, Ends};
-ghost use Rattle.qmpd.specs.Output.{usage, missing as missing_of, replayed, end_status_of, cannot_read as cannot_read_line};
+ghost use Rattle.qmpd.specs.Output.{usage, missing as missing_of, limits_of, replayed, end_status_of, cannot_read as cannot_read_line};
 ghost use Rattle.qm_script.specs.Playing.{played_of};
 ghost use Rattle.qm_core.specs.declared.TheConstants.{MOST_ENTRIES};
-ghost use Rattle.qmpd.specs.Words.{script_of as script_of_words};
+ghost use Rattle.qmpd.specs.Words.{replay_of as replay_of_words};
 
-use crate::words::script_of;
+use crate::words::replay_of;
 use qapi_load::{Library, LibraryFault};
 use qm_base::{NoMemory, Text};
-use qm_core::{Limits, MOST_ENTRIES};
+use qm_core::{Limits, MOST_TEXT};
 use qm_link::{Sink, SinkFailed};
 use qm_script::{PlayEnd, play};
 use std::alloc::Global;
@@ -103,8 +103,10 @@ fn refuse_unread<S: Sink>(alloc: Global, name: &[u8], sink: &mut S) -> u8
     }
 }
 
-fn replay<S: Sink>(alloc: Global, script: &[u8], sink: &mut S) -> u8
-    ensures { Ends (replayed (played_of MOST_ENTRIES script.now)).bytes (replayed (played_of MOST_ENTRIES script.now)).status record {
+fn replay<S: Sink>(alloc: Global, entries: u64, script: &[u8], sink: &mut S) -> u8
+    requires some { 1 ≤ entries }
+    requires few { entries ≤ MOST_ENTRIES }
+    ensures { let output = replayed (played_of (limits_of entries) script.now) in Ends output.bytes output.status record {
       held = S.contents sink.old;
       holds = S.contents sink.new;
       before = S.faults sink.old;
@@ -112,7 +114,8 @@ fn replay<S: Sink>(alloc: Global, script: &[u8], sink: &mut S) -> u8
     } result }
 {
     let limits = Limits {
-        entries: MOST_ENTRIES,
+        entries,
+        text: MOST_TEXT,
     };
     status(play(alloc, limits, script, sink))
 }
@@ -128,7 +131,7 @@ pub fn run_offline<L: Library, S: Sink>(
     sink: &mut S,
 ) -> u8
     ensures { Answers record {
-      script = script_of_words (map string_bytes words.now);
+      replay = replay_of_words (map string_bytes words.now);
       files = L.files library.old;
       library_before = L.faults library.old;
       library_now = L.faults library.new;
@@ -140,13 +143,13 @@ pub fn run_offline<L: Library, S: Sink>(
       };
     } result }
 {
-    let Some(name) = script_of(words) else {
+    let Some(asked) = replay_of(words) else {
         return refuse_words(sink);
     };
-    match library.text(alloc, name) {
-        Ok(Some(script)) => replay(alloc, script.as_slice(), sink),
-        Ok(None) => refuse_missing(alloc, name, sink),
-        Err(LibraryFault::Failed) => refuse_unread(alloc, name, sink),
+    match library.text(alloc, asked.script) {
+        Ok(Some(script)) => replay(alloc, asked.entries, script.as_slice(), sink),
+        Ok(None) => refuse_missing(alloc, asked.script, sink),
+        Err(LibraryFault::Failed) => refuse_unread(alloc, asked.script, sink),
         Err(LibraryFault::Memory) => 1,
     }
 }

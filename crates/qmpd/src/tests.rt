@@ -2,10 +2,13 @@ use crate::offline::run_offline;
 use qapi_load::{FileList, LibraryFile, MemoryLibrary};
 use qm_base::{CallList, NoMemory, Text};
 use qm_link::MemorySink;
-use std::alloc::Global;
+use std::alloc::{AllocError, Global};
+use std::process::Abort;
 use std::test::Fail;
 
+mod lengths;
 mod scripts;
+mod verdicts;
 
 /// What a run answers: its status and what was put.
 #[derive(Drop)]
@@ -42,18 +45,34 @@ fn first_call(alloc: Global) -> Result<CallList, NoMemory> {
     Ok(calls)
 }
 
+fn joined(alloc: Global, pieces: &[&str]) -> Result<String, AllocError> {
+    let mut text = String::new(alloc);
+    for piece in pieces {
+        text.push_str(piece)?;
+    }
+    Ok(text)
+}
+
+/// Compares the status of a run, and what is put, with what is wanted.
+fn expect(
+    rt: &(impl AllocGlobal + Abort),
+    all: &[&str],
+    script: &str,
+    status: u8,
+    want: &str,
+) -> Result<(), Fail> {
+    let none = CallList::new(rt.alloc());
+    let ran = run(rt.alloc(), all, script, CallList::new(rt.alloc()), none)?;
+    assert_eq!(rt; ran.status, status);
+    assert!(rt; ran.sink.taken() == want.as_bytes());
+    Ok(())
+}
+
 #[test]
 fn each_run_ends_as_wanted(rt: HostRuntime) -> Result<(), Fail> {
-    let alloc = rt.alloc();
     for (all, script, status, pieces) in scripts::RUNS {
-        let none = CallList::new(alloc);
-        let ran = run(alloc, all, script, CallList::new(alloc), none)?;
-        let mut want = Text::new(alloc);
-        for piece in pieces.iter() {
-            want.extend(piece.as_bytes())?;
-        }
-        assert_eq!(rt; ran.status, *status);
-        assert_eq!(rt; ran.sink.taken(), want.as_slice());
+        let want = joined(rt.alloc(), pieces)?;
+        expect(&rt, all, script, *status, want.as_str())?;
     }
     Ok(())
 }
@@ -61,26 +80,15 @@ fn each_run_ends_as_wanted(rt: HostRuntime) -> Result<(), Fail> {
 #[test]
 fn a_library_or_sink_that_fails(rt: HostRuntime) -> Result<(), Fail> {
     let alloc = rt.alloc();
-    let words = ["replay", "a.script"].as_slice();
-    let ran = run(
-        alloc,
-        words,
-        "open\n",
-        first_call(alloc)?,
-        CallList::new(alloc),
-    )?;
+    let none = CallList::new(alloc);
+    let ran = run(alloc, scripts::REPLAY, "open\n", first_call(alloc)?, none)?;
     assert_eq!(rt; ran.status, 6);
     assert_eq!(rt;
         ran.sink.taken(),
         b"error: cannot read a.script\n".as_slice()
     );
-    let ran = run(
-        alloc,
-        words,
-        "open\n",
-        CallList::new(alloc),
-        first_call(alloc)?,
-    )?;
+    let none = CallList::new(alloc);
+    let ran = run(alloc, scripts::REPLAY, "open\n", none, first_call(alloc)?)?;
     assert_eq!(rt; ran.status, 7);
     assert_eq!(rt; ran.sink.taken(), b"".as_slice());
     Ok(())

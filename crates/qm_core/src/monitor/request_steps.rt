@@ -4,11 +4,14 @@ ghost use Rattle.qm_json.specs.Printing.{printed};
 ghost use Rattle.qm_caps.specs.Modes.{bound_of};
 ghost use Rattle.qm_caps.specs.declared.mode.Lane.TheVariants.{InBand};
 ghost use Rattle.qm_core.specs.Legal.{past_of};
-ghost use Rattle.qm_core.specs.Next.{Next, Admit, Start, Finish, refusal_of, is_running};
+ghost use Rattle.qm_core.specs.Next.{Next, Admit, Start, Finish, is_running, start_entry};
+ghost use Rattle.qm_core.specs.Texts.{entry_text_of};
+ghost use Rattle.qm_core.specs.declared.entries.Entry.TheVariants as entry;
 ghost use Rattle.qm_core.specs.Replies.{reply_to, is_return};
 ghost use Rattle.qm_core.specs.Standing.{is_ended, open_count_of, admitted_of, in_flight_of, mode_of, waiting_of, running_of, starting_of, named_of, negotiates};
 
 use crate::entries::{Entry, StepFault};
+use crate::inputs::Input;
 use crate::lines::line;
 use crate::monitor::Monitor;
 use crate::offers::{Offer, Owners};
@@ -43,20 +46,30 @@ fn answer_to(alloc: Global, request: &Request) -> Result<Answer, NoMemory>
     })
 }
 
+/// A request to be started, and the bytes of its entry.
+#[derive(Clone, Copy)]
+struct Starting {
+    started: Started,
+    bytes: u64,
+}
+
 impl Monitor {
-    ghost use Rattle.qm_core.specs.Kept.{HasPlace, IsFirstOpen, admit_refusal, refusal_in, room_refusal};
+    ghost use Rattle.qm_core.specs.Kept.{HasPlace, IsFirstOpen, refusal_in};
     ghost use Rattle.qm_core.specs.declared.entries.StepFault.{StepFault};
 
     #[tactic(auto, using(crate::proofs::KeptSessions::none_waits))]
-    fn may_admit(&self, session: u32) -> Result<(), StepFault>
-        ensures fault { result_err result ≡ admit_refusal session self.now }
+    fn may_admit(&self, session: u32, input: &Input) -> Result<u64, StepFault>
+        ensures fault { result_err result ≡ refusal_in self.now (Admit session input.now) }
         ensures open { OnOk result (IsFirstOpen (past_of self.now.journal) session) }
         ensures more { OnOk result (is_ended session (past_of self.now.journal) ≡ false) }
         ensures below { let past = past_of self.now.journal in
             OnOk result (in_flight_of session past < bound_of (mode_of session past)) }
         ensures idle { OnOk result (waiting_of session (past_of self.now.journal) ≡ []) }
         ensures number { OnOk result (admitted_of session (past_of self.now.journal) + 1 < 2 ^ 64) }
-        ensures room { OnOk result (HasPlace self.now) }
+        ensures bytes { let number = admitted_of session (past_of self.now.journal) + 1 in
+            IfOk result (λ n. n ≡ length (entry_text_of (length self.now.journal + 1)
+            (entry.Admit session number InBand input.now))) }
+        ensures room { IfOk result (λ n. HasPlace self.now n (open_count_of (past_of self.now.journal))) }
     {
         match self.open_session(session) {
             Ok(()) => {}
@@ -68,7 +81,7 @@ impl Monitor {
         if self.in_flight() >= bound(self.session.mode) {
             return Err(StepFault::Busy);
         }
-        self.room()
+        self.admit_room(session, self.session.admitted + 1, input)
     }
 
     /// Admits the input of an offer, in band, and answers its number. It takes no memory.
@@ -85,7 +98,7 @@ impl Monitor {
         ensures spent { OnOk result (offer.new ≡ None) }
         ensures kept { OnErr result (offer.new ≡ offer.old) }
     {
-        self.may_admit(session)?;
+        let bytes = self.may_admit(session, offer.kept())?;
         let Owners { kept, waiting } = offer.spend();
         let number = self.session.admitted + 1;
         let request = Request {
@@ -96,24 +109,30 @@ impl Monitor {
         };
         self.session.admitted = number;
         self.session.waiting = Some(request);
-        self.journal.put(Entry::Admit {
-            session,
-            number,
-            lane: Lane::InBand,
-            input: kept,
-        });
+        self.journal.put(
+            Entry::Admit {
+                session,
+                number,
+                lane: Lane::InBand,
+                input: kept,
+            },
+            bytes,
+        );
         Ok(Admitted {
             number,
             lane: Lane::InBand,
         })
     }
 
-    fn may_start(&self) -> Result<Started, StepFault>
+    fn may_start(&self) -> Result<Starting, StepFault>
         ensures fault { result_err result ≡ refusal_in self.now Start }
         ensures idle { OnOk result (running_of (past_of self.now.journal) ≡ None) }
         ensures turn { let past = past_of self.now.journal in
-            IfOk result (λ started. named_of (starting_of past) ≡ Some started) }
-        ensures room { OnOk result (HasPlace self.now) }
+            IfOk result (λ starting. named_of (starting_of past) ≡ Some starting.started) }
+        ensures bytes { IfOk result (λ starting. starting.bytes ≡ length (entry_text_of
+            (length self.now.journal + 1) (start_entry (Some starting.started)))) }
+        ensures room { IfOk result (λ starting.
+            HasPlace self.now starting.bytes (open_count_of (past_of self.now.journal))) }
     {
         if self.running.is_some() {
             return Err(StepFault::Nothing);
@@ -125,8 +144,8 @@ impl Monitor {
             session: request.session,
             number: request.number,
         };
-        self.room()?;
-        Ok(started)
+        let bytes = self.start_room(started.session, started.number)?;
+        Ok(Starting { started, bytes })
     }
 
     /// Starts the least waiting request of the session whose turn it is. It takes no memory.
@@ -138,23 +157,25 @@ impl Monitor {
         ensures value { let past = past_of self.old.journal in
             IfOk result (λ started. named_of (starting_of past) ≡ Some started) }
     {
-        let started = self.may_start()?;
+        let Starting { started, bytes } = self.may_start()?;
         self.running = self.session.waiting.take();
-        self.journal.put(Entry::Start {
-            session: started.session,
-            number: started.number,
-        });
+        self.journal.put(
+            Entry::Start {
+                session: started.session,
+                number: started.number,
+            },
+            bytes,
+        );
         Ok(started)
     }
 
     fn may_finish(&self, session: u32, number: u64) -> Result<&Request, StepFault>
         ensures fault { result_err result ≡ cond (is_running session number (past_of self.now.journal))
-            (room_refusal self.now) (Some StepFault.NotRunning) }
+            None (Some StepFault.NotRunning) }
         ensures runs { IfOk result (λ request. running_of (past_of self.now.journal) ≡ Some request.now) }
         ensures named { IfOk result (λ request.
             (request.now.session ≡ session) × (request.now.number ≡ number)) }
         ensures first { OnOk result (session ≡ 1) }
-        ensures room { OnOk result (HasPlace self.now) }
     {
         let Some(request) = &self.running else {
             return Err(StepFault::NotRunning);
@@ -162,7 +183,6 @@ impl Monitor {
         if request.session != session || request.number != number {
             return Err(StepFault::NotRunning);
         }
-        self.room()?;
         Ok(request)
     }
 
@@ -188,15 +208,20 @@ impl Monitor {
             line,
             opens_commands,
         } = answer_to(alloc, request)?;
+        let moment = moment.max(self.last_moment);
+        let bytes = self.finish_room(session, number, &reply, moment)?;
         self.session.answer(line, opens_commands)?;
         self.running = None;
-        self.last_moment = moment.max(self.last_moment);
-        self.journal.put(Entry::Done {
-            session,
-            number,
-            reply,
-            moment: self.last_moment,
-        });
+        self.last_moment = moment;
+        self.journal.put(
+            Entry::Done {
+                session,
+                number,
+                reply,
+                moment,
+            },
+            bytes,
+        );
         Ok(())
     }
 }

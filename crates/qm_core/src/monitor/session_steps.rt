@@ -2,34 +2,34 @@ ghost use Rattle.std.specs.Prelude.{◌≡◌, ◌≢◌, ◌+◌, ◌≤◌, �
 ghost use Rattle.std.specs.Result.{result_err};
 ghost use Rattle.qm_core.specs.Drained.{is_drained};
 ghost use Rattle.qm_core.specs.Legal.{past_of};
-ghost use Rattle.qm_core.specs.Next.{Next, Open, Take, End, Drop, refusal_of, cause_refusal};
+ghost use Rattle.qm_core.specs.Next.{Next, Open, Take, End, Drop, cause_refusal};
 ghost use Rattle.qm_core.specs.Order.{Holds};
+ghost use Rattle.qm_core.specs.declared.entries.Entry.TheVariants as entry;
 ghost use Rattle.qm_core.specs.Standing.{sessions_of, is_ended, open_count_of};
-ghost use Rattle.qm_core.specs.Transcript.{untaken_of};
+ghost use Rattle.qm_core.specs.Texts.{entry_text_of};
+ghost use Rattle.qm_core.specs.Transcript.{has_overrun, untaken_of};
 
 use crate::entries::{Cause, Entry, StepFault};
 use crate::lines::{LineList, line};
 use crate::monitor::Monitor;
 use crate::outbox::Copies;
+use crate::sizes::drop_size;
 use qm_caps::greeting;
 use std::alloc::Global;
 
 impl Monitor {
-    ghost use Rattle.qm_core.specs.Kept.{HasPlace, IsFirstOpen, refusal_in};
+    ghost use Rattle.qm_core.specs.Kept.{HasPlace, IsFirstOpen, Placed, refusal_in};
     ghost use Rattle.qm_core.specs.declared.entries.StepFault.{StepFault};
 
     #[tactic(auto, using(crate::proofs::Journals::nothing_before))]
-    fn may_open(&self) -> Result<(), StepFault>
+    fn may_open(&self) -> Result<u64, StepFault>
         requires { sessions_of (past_of self.now.journal) ≡ [] }
         ensures fault { result_err result ≡ refusal_in self.now Open }
         ensures empty { past_of self.now.journal ≡ [] }
-        ensures room { OnOk result (2 ≤ self.now.limits.entries) }
+        ensures placed { Placed self.now (entry.Open 1) result }
     {
-        // Its entry and the place of its drop.
-        if self.journal.len() as u64 + 2 > self.limits.entries {
-            return Err(StepFault::JournalFull);
-        }
-        Ok(())
+        let _ = &self.limits;
+        self.open_room()
     }
 
     /// Opens the next session, puts the greeting into its outbox, and answers its number.
@@ -44,20 +44,21 @@ impl Monitor {
         ensures value { let past = past_of self.old.journal in
             IfOk result (λ number. number ≡ length (sessions_of past) + 1) }
     {
-        self.may_open()?;
+        let bytes = self.may_open()?;
         let greeting = greeting(alloc)?;
         let line = line(alloc, &greeting)?;
-        self.session.outbox.put(line)?;
+        self.session.send(line)?;
         self.session.opened = true;
-        self.journal.put(Entry::Open { session: 1 });
+        self.journal.put(Entry::Open { session: 1 }, bytes);
         Ok(1)
     }
 
-    fn may_end(&self, session: u32) -> Result<(), StepFault>
+    fn may_end(&self, session: u32) -> Result<u64, StepFault>
         ensures fault { result_err result ≡ refusal_in self.now (End session) }
         ensures open { OnOk result (IsFirstOpen (past_of self.now.journal) session) }
         ensures more { OnOk result (is_ended session (past_of self.now.journal) ≡ false) }
-        ensures room { OnOk result (HasPlace self.now) }
+        ensures bytes { IfOk result (λ n. n ≡ length (entry_text_of (length self.now.journal + 1) (entry.Eof session))) }
+        ensures room { IfOk result (λ n. HasPlace self.now n (open_count_of (past_of self.now.journal))) }
     {
         match self.open_session(session) {
             Ok(()) => {}
@@ -66,7 +67,7 @@ impl Monitor {
         if self.session.ended {
             return Err(StepFault::InputEnded);
         }
-        self.room()
+        self.end_room(session)
     }
 
     /// Notes the end of a session's input. It takes no memory.
@@ -76,17 +77,19 @@ impl Monitor {
     pub fn end(&mut self, session: u32) -> Result<(), StepFault>
         ensures { Next self.old (End session) (result_err result) self.new }
     {
-        self.may_end(session)?;
+        let bytes = self.may_end(session)?;
         self.session.ended = true;
-        self.journal.put(Entry::Eof { session });
+        self.journal.put(Entry::Eof { session }, bytes);
         Ok(())
     }
 
-    fn may_take(&self, session: u32) -> Result<(), StepFault>
+    fn may_take(&self, session: u32) -> Result<u64, StepFault>
         ensures fault { result_err result ≡ refusal_in self.now (Take session) }
         ensures open { OnOk result (IsFirstOpen (past_of self.now.journal) session) }
         ensures some { OnOk result (0 < length (untaken_of session (past_of self.now.journal))) }
-        ensures room { OnOk result (HasPlace self.now) }
+        ensures bytes { let lines = untaken_of session (past_of self.now.journal) in
+            IfOk result (λ n. n ≡ length (entry_text_of (length self.now.journal + 1) (entry.Take session lines))) }
+        ensures room { IfOk result (λ n. HasPlace self.now n (open_count_of (past_of self.now.journal))) }
     {
         match self.open_session(session) {
             Ok(()) => {}
@@ -95,7 +98,7 @@ impl Monitor {
         if self.session.outbox.len() == 0 {
             return Err(StepFault::Nothing);
         }
-        self.room()
+        self.take_room(session)
     }
 
     /// Moves out the lines of a session that were not handed out yet. It takes no memory.
@@ -106,12 +109,15 @@ impl Monitor {
         ensures next { Next self.old (Take session) (result_err result) self.new }
         ensures value { IfOk result (λ lines. lines ≡ untaken_of session (past_of self.old.journal)) }
     {
-        self.may_take(session)?;
+        let bytes = self.may_take(session)?;
         let Copies { kept, given } = self.session.outbox.take();
-        self.journal.put(Entry::Take {
-            session,
-            lines: kept,
-        });
+        self.journal.put(
+            Entry::Take {
+                session,
+                lines: kept,
+            },
+            bytes,
+        );
         Ok(given)
     }
 
@@ -122,10 +128,12 @@ impl Monitor {
             && self.session.ended
             && self.in_flight() == 0
             && self.session.outbox.len() == 0
+            && !self.session.overrun
     }
 
     fn cause_fault(&self, cause: Cause) -> Result<(), StepFault>
-        ensures fault { result_err result ≡ cause_refusal cause (is_drained 1 (past_of self.now.journal)) }
+        ensures fault { let past = past_of self.now.journal in
+            result_err result ≡ cause_refusal cause (is_drained 1 past) (has_overrun 1 past) }
         ensures holds { OnOk result (Holds (past_of self.now.journal) 1 cause) }
     {
         match cause {
@@ -136,7 +144,14 @@ impl Monitor {
                     Err(StepFault::NotDrained)
                 }
             }
-            Cause::Stopped | Cause::Overrun => Err(StepFault::WrongCause),
+            Cause::Overrun => {
+                if self.session.overrun {
+                    Ok(())
+                } else {
+                    Err(StepFault::WrongCause)
+                }
+            }
+            Cause::Stopped => Err(StepFault::WrongCause),
             Cause::ReadFault | Cause::WriteFault | Cause::Limit | Cause::Memory | Cause::Halted =>
                 Ok(()),
         }
@@ -157,16 +172,17 @@ impl Monitor {
     /// has kept its place in the journal.
     ///
     /// `NoSession`: it was never opened. `Closed`: it was dropped. `NotDrained`: the cause is
-    /// `Ended`, and its input has not ended, a request of it waits or runs, or a line was not
-    /// handed out. `WrongCause`: no command stops the monitor yet, and no session overruns. A
-    /// refusal leaves the monitor as it was.
+    /// `Ended`, and its input has not ended, a request of it waits or runs, a line was not handed
+    /// out, or a line overran. `WrongCause`: the cause is `Overrun` and no line overran, or it is
+    /// `Stopped`, since no command stops the monitor yet. A refusal leaves the monitor as it was.
     pub fn drop_session(&mut self, session: u32, cause: Cause) -> Result<(), StepFault>
         ensures { Next self.old (Drop session cause) (result_err result) self.new }
     {
         self.may_drop(session, cause)?;
         self.session.dropped = true;
         self.session.waiting = None;
-        self.journal.put(Entry::Drop { session, cause });
+        let bytes = drop_size(self.journal.len() + 1, session, cause);
+        self.journal.put(Entry::Drop { session, cause }, bytes);
         Ok(())
     }
 }

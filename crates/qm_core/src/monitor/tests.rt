@@ -33,7 +33,13 @@ fn answered(rt: &impl AllocGlobal, monitor: &mut Monitor, session: u32) -> Resul
 
 #[test]
 fn a_session_from_opening_to_end(rt: HostRuntime) -> Result<(), Fail> {
-    let mut monitor = Monitor::new(rt.alloc(), Limits { entries: 8 })?;
+    let mut monitor = Monitor::new(
+        rt.alloc(),
+        Limits {
+            entries: 8,
+            text: 1000,
+        },
+    )?;
     let session = monitor.open(rt.alloc())?;
     answered(&rt, &mut monitor, session)?;
     let lines = monitor.take(session)?;

@@ -7,7 +7,7 @@ use Rattle.qm_script.proofs.LegalPlays.{played_legal}
 use Rattle.qm_script.proofs.laws.each_script_plays_a_legal_journal.Goals as goal
 
 pub returns-clause-legal : goal.returns-clause-legal
-returns-clause-legal c = λ entries script. played_legal entries 1 nothing_played (lines_of script) tt
+returns-clause-legal c = λ limits script. played_legal limits 1 nothing_played (lines_of script) tt
 
 pub returns-clause-begins : goal.returns-clause-begins
-returns-clause-begins c = λ entries s script. taken_first s (past_of (journal_of entries script)) (played_legal entries 1 nothing_played (lines_of script) tt)
+returns-clause-begins c = λ limits s script. taken_first s (past_of (journal_of limits script)) (played_legal limits 1 nothing_played (lines_of script) tt)

@@ -1,7 +1,6 @@
 use Rattle.std.proofs.Common.{◌≡◌, ◌+◌, ◌≤◌, length}
 use Rattle.qm_script.specs.Lines.{lines_of}
 use Rattle.qm_script.specs.Playing.{played_from}
-use Rattle.qm_script.specs.declared.TheConstants.{MOST_LINES}
 use Rattle.qm_script.proofs.replays.run.Given as goal
 
 abbrev pub decreases-loop-rest : goal.decreases-loop-rest
@@ -9,5 +8,5 @@ decreases-loop-rest l = length l.rest
 
 abbrev pub invariant-loop-rest : goal.invariant-loop-rest
 invariant-loop-rest l =
-    (played_from l.player.entries (l.number + 1) l.player.played (lines_of l.rest) ≡ played_from l.fn.player.entries 1 l.fn.player.played (lines_of l.fn.script))
-    × (l.number ≤ MOST_LINES)
+    (played_from l.player.limits (l.number + 1) l.player.played (lines_of l.rest) ≡ played_from l.fn.player.limits 1 l.fn.player.played (lines_of l.fn.script))
+    × (l.number + length l.rest ≤ length l.fn.script)

@@ -1,0 +1,107 @@
+//! The room of the journal for one more entry.
+
+ghost use Rattle.std.specs.Prelude.{◌≡◌, ◌+◌, ◌≤◌, [], length, IfOk};
+ghost use Rattle.std.specs.Result.{result_err};
+ghost use Rattle.qm_caps.specs.declared.mode.Lane.TheVariants.{InBand};
+ghost use Rattle.qm_core.specs.Kept.{HasPlace, Placed, room_refusal};
+ghost use Rattle.qm_core.specs.Legal.{past_of};
+ghost use Rattle.qm_core.specs.Transcript.{untaken_of};
+ghost use Rattle.qm_core.specs.declared.TheConstants.{MOST_TEXT};
+ghost use Rattle.qm_core.specs.declared.entries.Entry.TheVariants.{Open, Admit, Start, Done, Take, Eof};
+
+use crate::DROP_BYTES;
+use crate::entries::StepFault;
+use crate::inputs::Input;
+use crate::monitor::Monitor;
+use crate::sizes::{admit_size, done_size, eof_size, open_size, start_size, take_size};
+use qm_caps::Lane;
+use qm_json::Json;
+
+impl Monitor {
+    fn next_number(&self) -> u64
+        ensures { result ≡ length self.now.journal + 1 }
+    {
+        self.journal.len() + 1
+    }
+
+    /// The bytes of an entry for which there is room, so many sessions being open after it.
+    fn room(&self, bytes: u64, opened: u64) -> Result<u64, StepFault>
+        requires { opened ≤ 1 }
+        ensures fault { result_err result ≡ room_refusal self.now bytes opened }
+        ensures value { IfOk result (λ size. size ≡ bytes) }
+        ensures room { IfOk result (λ size. HasPlace self.now size opened) }
+        ensures short { self.now.limits.text ≤ MOST_TEXT }
+    {
+        if self.journal.len() + 1 + opened > self.limits.entries {
+            return Err(StepFault::JournalFull);
+        }
+        let kept = self.journal.text_length() + DROP_BYTES * opened;
+        if kept.saturating_add(bytes) > self.limits.text {
+            return Err(StepFault::JournalFull);
+        }
+        Ok(bytes)
+    }
+
+    pub(super) fn open_room(&self) -> Result<u64, StepFault>
+        requires { past_of self.now.journal ≡ [] }
+        ensures { Placed self.now (Open 1) result }
+    {
+        let at = self.next_number();
+        self.room(open_size(at, 1), 1)
+    }
+
+    pub(super) fn admit_room(
+        &self,
+        session: u32,
+        number: u64,
+        input: &Input,
+    ) -> Result<u64, StepFault>
+        ensures { Placed self.now (Admit session number InBand input.now) result }
+    {
+        let at = self.next_number();
+        self.room(
+            admit_size(at, session, number, Lane::InBand, input),
+            self.open_count(),
+        )
+    }
+
+    pub(super) fn start_room(&self, session: u32, number: u64) -> Result<u64, StepFault>
+        ensures { Placed self.now (Start session number) result }
+    {
+        let at = self.next_number();
+        self.room(start_size(at, session, number), self.open_count())
+    }
+
+    pub(super) fn finish_room(
+        &self,
+        session: u32,
+        number: u64,
+        reply: &Json,
+        moment: u64,
+    ) -> Result<u64, StepFault>
+        ensures { Placed self.now (Done session number reply.now moment) result }
+    {
+        let at = self.next_number();
+        self.room(
+            done_size(at, session, number, reply, moment),
+            self.open_count(),
+        )
+    }
+
+    pub(super) fn take_room(&self, session: u32) -> Result<u64, StepFault>
+        ensures { Placed self.now (Take session (untaken_of 1 (past_of self.now.journal))) result }
+    {
+        let at = self.next_number();
+        self.room(
+            take_size(at, session, &self.session.outbox),
+            self.open_count(),
+        )
+    }
+
+    pub(super) fn end_room(&self, session: u32) -> Result<u64, StepFault>
+        ensures { Placed self.now (Eof session) result }
+    {
+        let at = self.next_number();
+        self.room(eof_size(at, session), self.open_count())
+    }
+}

@@ -1,0 +1,72 @@
+-- A moment that a line orders has 64 bits.
+use Rattle.std.proofs.Common.{◌≡◌, ℕ, ◌<◌, ◌^◌, nat_lt, Bool, true, false, cond, ◌&&◌, List, codes, Option, Some, None, IfSome, option_map, position, is_some, refl, arith}
+use Rattle.std.specs.Option.{option_and_then, option_or}
+use Rattle.std.specs.Str.{bytes_eq}
+use Rattle.std.specs.Str.Parse.{digits_value}
+use Rattle.std.proofs.lemmas.Bool.Decides.{nat_tests}
+use Rattle.qm_base.specs.Numerals.{is_numeral, number_of}
+use Rattle.qm_core.specs.Texts.{cause_of}
+use Rattle.qm_core.specs.declared.entries.Cause.{Cause}
+use Rattle.qm_script.specs.Orders.{after_blank, after_word, before_blank, drop_order, feed_order, is_blank, is_hex, long_order_of, order_of, session_after, session_number, text_order}
+use Rattle.qm_script.specs.declared.orders.Order.{Order}
+use Rattle.qm_script.specs.declared.orders.Order.TheVariants.{Open, Text, Feed, Admit, Start, Finish, Take, Eof, Drop}
+
+abbrev pub IsSmall : Order → Type 0
+IsSmall Open = Unit {0}
+IsSmall (Text s) = Unit {0}
+IsSmall (Feed s) = Unit {0}
+IsSmall (Admit s) = Unit {0}
+IsSmall Start = Unit {0}
+IsSmall (Finish moment) = moment < 2 ^ 64
+IsSmall (Take s) = Unit {0}
+IsSmall (Eof s) = Unit {0}
+IsSmall (Drop s cause) = Unit {0}
+
+either : (a b : Option Order) → IfSome a IsSmall → IfSome b IsSmall → IfSome (option_or a b) IsSmall
+either None b x y = y
+either (Some a) b x y = x
+
+where_true : (test : Bool) (a b : Option Order) → IfSome a IsSmall → IfSome b IsSmall → IfSome (cond test a b) IsSmall
+where_true true a b x y = x
+where_true false a b x y = y
+
+each : {A : Type 0} (f : A → Order) (a : Option A) → ((x : A) → IsSmall (f x)) → IfSome (option_map f a) IsSmall
+each f None small = tt
+each f (Some x) small = small x
+
+then_each : (f : List ℕ → Option Order) (a : Option (List ℕ)) → ((text : List ℕ) → IfSome (f text) IsSmall) → IfSome (option_and_then f a) IsSmall
+then_each f None small = tt
+then_each f (Some text) small = small text
+
+text-small : (text : List ℕ) → IfSome (text_order text) IsSmall
+text-small text = where_true (is_some (position is_blank text)) _ None (each Text (session_number (before_blank text)) (λ s. tt)) tt
+
+feed-small : (text : List ℕ) → IfSome (feed_order text) IsSmall
+feed-small text = where_true (is_hex (after_blank text)) _ None (each Feed (session_number (before_blank text)) (λ s. tt)) tt
+
+dropped : (session : Option ℕ) (cause : Option Cause) → IfSome (option_and_then (λ s. option_map (λ c. Drop s c) cause) session) IsSmall
+dropped None cause = tt
+dropped (Some s) cause = each (λ c. Drop s c) cause (λ c. tt)
+
+numbered : (text : List ℕ) (test : Bool) → nat_lt (digits_value 10 text) (2 ^ 64) ≡ test → (numeral : Bool) →
+    IfSome (option_map Finish (cond (numeral && test) (Some (digits_value 10 text)) None)) IsSmall
+numbered text true below true = grind (arith, nat_tests)
+numbered text true below false = tt
+numbered text false below true = tt
+numbered text false below false = tt
+
+finished : (text : Option (List ℕ)) → IfSome (option_map Finish (option_and_then number_of text)) IsSmall
+finished None = tt
+finished (Some text) = numbered text (nat_lt (digits_value 10 text) (2 ^ 64)) refl (is_numeral text)
+
+-- a moment in the order of a line has 64 bits
+pub order-small : (line : List ℕ) → IfSome (order_of line) IsSmall
+order-small line =
+    where_true (bytes_eq line (codes "open")) (Some Open) _ tt (where_true (bytes_eq line (codes "start")) (Some Start) (long_order_of line) tt
+    (either _ _ (then_each text_order (after_word (codes "text ") line) text-small)
+    (either _ _ (then_each feed_order (after_word (codes "feed ") line) feed-small)
+    (either _ _ (each Admit (session_after (codes "admit ") line) (λ s. tt))
+    (either _ _ (finished (after_word (codes "finish ") line))
+    (either _ _ (each Take (session_after (codes "take ") line) (λ s. tt))
+    (either _ _ (each Eof (session_after (codes "eof ") line) (λ s. tt))
+    (then_each drop_order (after_word (codes "drop ") line) (λ text. dropped (session_number (before_blank text)) (cause_of (after_blank text)))))))))))
