@@ -1,4 +1,4 @@
-ghost use Rattle.std.specs.Prelude.{◌≡◌, [], ◌∷◌, ◌++◌, OnOk, IfOk};
+ghost use Rattle.std.specs.Prelude.{◌≡◌, ◌≤◌, [], ◌∷◌, ◌++◌, length, IsSome, OnOk, IfOk};
 ghost use Rattle.std.specs.Option.{option_map};
 ghost use Rattle.qm_json.specs.Members.{has_name};
 ghost use Rattle.qm_read.specs.Names.{AddsName, AreNamesOf};
@@ -56,7 +56,8 @@ fn table_for(
     members: &[Member],
 ) -> Result<Option<Box<NameTable>>, NoMemory>
     requires { AreNamesOf (option_map (λ b. b.value) names) members.now }
-    ensures { IfOk result (λ table. AreNamesOf (option_map (λ b. b.value) table) members.now) }
+    ensures names { IfOk result (λ table. AreNamesOf (option_map (λ b. b.value) table) members.now) }
+    ensures many { IfOk result (λ table. MOST_WALKED ≤ length members.now → IsSome table) }
 {
     match names {
         Some(names) => Ok(Some(names)),
