@@ -2,7 +2,7 @@
 use Rattle.std.proofs.Common.{◌≡◌, ℕ, true, false, List, [], ◌∷◌, ◌++◌, Result, Ok, refl, ap, sym, ◌∙◌, append_assoc}
 use Rattle.std.proofs.lemmas.List.{append-nil}
 use Rattle.qapi_lex.specs.declared.token.Token.{Token}
-use Rattle.qapi_lex.specs.declared.token.TokenKind.TheVariants.{Mark, Flag, Str}
+use Rattle.qapi_lex.specs.declared.token.TokenKind.TheVariants.{Mark, Str}
 use Rattle.qapi_tree.specs.declared.fault.TreeFault.{TreeFault}
 use Rattle.qapi_tree.specs.declared.stack.Expect.{Expect}
 use Rattle.qapi_tree.specs.declared.stack.Expect.TheVariants.{Object, Value, ValueOrEnd, Key, KeyOrEnd, Colon, CommaOrEnd}

@@ -1,5 +1,5 @@
 -- Want of memory is no fault of tokens.
-use Rattle.std.proofs.Common.{◌≡◌, ◌≢◌, ◌==◌, ℕ, Bool, true, false, cond, List, [], ◌∷◌, Option, Some, None, option_map, Result, Ok, Err, IfErr, IfSome}
+use Rattle.std.proofs.Common.{◌≢◌, ◌==◌, ℕ, Bool, true, false, cond, List, [], ◌∷◌, Option, Some, None, option_map, Result, Ok, Err, IfErr, IfSome}
 use Rattle.std.specs.Option.{option_or}
 use Rattle.qapi_lex.specs.declared.token.Token.{Token}
 use Rattle.qapi_lex.specs.declared.token.TokenKind.{TokenKind}
@@ -8,7 +8,7 @@ use Rattle.qapi_tree.specs.declared.fault.TreeFault.{TreeFault}
 use Rattle.qapi_tree.specs.declared.fault.TreeRule.{TreeRule}
 use Rattle.qapi_tree.specs.declared.fault.TreeRule.TheVariants.{Memory, UnknownKey, MissingKey, WrongShape}
 use Rattle.qapi_tree.specs.declared.stack.Expect.{Expect}
-use Rattle.qapi_tree.specs.declared.stack.Expect.TheVariants.{Object, Value, ValueOrEnd, Key, KeyOrEnd, Colon, CommaOrEnd}
+use Rattle.qapi_tree.specs.declared.stack.Expect.TheVariants.{Colon, CommaOrEnd}
 use Rattle.qapi_tree.specs.declared.stack.Open.{Open}
 use Rattle.qapi_tree.specs.declared.stack.Open.TheVariants as opens
 use Rattle.qapi_tree.specs.declared.table.Form.{Form}
@@ -16,13 +16,13 @@ use Rattle.qapi_tree.specs.declared.tree.Tree.{Tree}
 use Rattle.qapi_tree.specs.declared.tree.Tree.TheVariants as trees
 use Rattle.qapi_tree.specs.declared.tree.Expr.{Expr}
 use Rattle.qapi_tree.specs.declared.tree.TreeMember.{TreeMember}
-use Rattle.qapi_tree.specs.Faults.{fault, syntax_fault}
+use Rattle.qapi_tree.specs.Faults.{fault}
 use Rattle.qapi_tree.specs.Judging.{form_of, first_unknown, first_missing, first_wrong, fault_in, fault_of, first_fault, unless_faulty, expressions_of}
 use Rattle.qapi_tree.specs.Keys.{has_key}
 use Rattle.qapi_tree.specs.Reading.{on, run, whole, last_line, objects_of}
 use Rattle.qapi_tree.specs.Shapes.{key_in}
 use Rattle.qapi_tree.specs.Stacks.{State, begun, takes_value, takes_object, takes_key, ends_list, ends_object}
-use Rattle.qapi_tree.specs.Steps.{value_step, open_list, open_object, key_step, close_list, close_object, colon_step, comma_step, mark_step, string_step, kind_step, step}
+use Rattle.qapi_tree.specs.Steps.{value_step, key_step, close_list, close_object, colon_step, comma_step, mark_step, kind_step, step}
 use Rattle.qapi_tree.specs.Table.{name}
 
 abbrev IsTold : {A : Type 0} → Result A TreeFault → Type 0

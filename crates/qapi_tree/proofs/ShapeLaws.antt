@@ -1,5 +1,5 @@
 -- Shapes, layer by layer.
-use Rattle.std.proofs.Common.{◌≡◌, ◌==◌, ◌+◌, ◌<◌, drop, get_or, arith, suc, ℕ, Bool, true, false, not, ◌&&◌, ◌||◌, List, [], ◌∷◌, map, length, Option, Some, None, refl, ap, sym, ◌∙◌}
+use Rattle.std.proofs.Common.{◌≡◌, ◌+◌, ◌<◌, drop, get_or, arith, suc, ℕ, Bool, true, false, not, ◌&&◌, ◌||◌, List, [], ◌∷◌, map, length, refl, ap, sym, ◌∙◌}
 use Rattle.std.specs.List.{list_all, list_any}
 use Rattle.std.specs.Str.{bytes_eq}
 use Rattle.std.proofs.Math.Seq.{drop-cons}
@@ -19,7 +19,7 @@ use Rattle.qapi_tree.specs.declared.tree.Tree.TheVariants.{rolls-Flag, rolls-Str
 use Rattle.qapi_tree.specs.declared.tree.Tree.TheOpen as layer
 use Rattle.qapi_tree.specs.declared.tree.Tree.TheFolds.{fold-TreeMember, fold-roll-Tree, fold-roll-TreeMember}
 use Rattle.qapi_tree.specs.declared.tree.TreeMember.{TreeMember}
-use Rattle.qapi_tree.specs.Asking.{Asks, items_have, values_have, has_needed_keys, member_fits, members_fit, list_fits, dict_fits}
+use Rattle.qapi_tree.specs.Asking.{Asks, values_have, has_needed_keys, member_fits, members_fit, list_fits, dict_fits}
 use Rattle.qapi_tree.specs.Keys.{has_key}
 use Rattle.qapi_tree.specs.Shapes.{key_in, is_needed, KeyAndShapes, fits_key, has_needed, takes_text, takes_flag, takes_list, takes_dict, shape_layer, member_layer, has_shape}
 use Rattle.qapi_tree.specs.Table.{name, keys, rule_of}

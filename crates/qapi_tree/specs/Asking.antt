@@ -1,6 +1,7 @@
 -- Shapes of values by those of the values inside. This serves private functions: shapes are stated without it.
 use Rattle.std.specs.Prelude.{◌≡◌, ◌==◌, Bool, true, false, not, ◌&&◌, ◌||◌, List, length}
 use Rattle.std.specs.List.{list_all}
+use Rattle.qapi_tree.specs.declared.shapes.Wanted.{Wanted}
 use Rattle.qapi_tree.specs.declared.table.Form.{Form}
 use Rattle.qapi_tree.specs.declared.table.Shape.{Shape}
 use Rattle.qapi_tree.specs.declared.table.ListRule.{ListRule}
@@ -12,6 +13,10 @@ use Rattle.qapi_tree.specs.declared.tree.TreeMember.{TreeMember}
 use Rattle.qapi_tree.specs.Keys.{has_key}
 use Rattle.qapi_tree.specs.Shapes.{key_in, is_needed, rule_for, fits_rule, has_shape}
 use Rattle.qapi_tree.specs.Table.{name, keys}
+
+-- each value that is asked about has its shape
+abbrev pub are_shaped : List Wanted → Bool
+are_shaped wanted = list_all (λ w. has_shape w.tree.now w.shape) wanted
 
 abbrev pub items_have : Shape → List Tree → Bool
 items_have shape items = list_all (λ t. has_shape t shape) items

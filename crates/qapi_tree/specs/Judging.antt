@@ -1,6 +1,6 @@
 -- The first fault of an expression: its kind, then the first unknown key, the first missing key, and the
 -- first value of a wrong shape (QAPI code generation guide, "Schema syntax"; the order is this project's own rule).
-use Rattle.std.specs.Prelude.{ℕ, Bool, not, ◌&&◌, List, [], ◌∷◌, Option, Some, None, find, Result, Ok, Err}
+use Rattle.std.specs.Prelude.{ℕ, not, ◌&&◌, List, [], ◌∷◌, Option, Some, None, find, Result, Ok, Err}
 use Rattle.std.specs.Option.{option_map, option_or, is_none}
 use Rattle.std.specs.List.{filter}
 use Rattle.qapi_lex.specs.declared.token.Token.{Token}

@@ -16,7 +16,7 @@ use Rattle.qapi_tree.specs.declared.table.DictRule.TheVariants as dict
 use Rattle.qapi_tree.specs.declared.tree.Tree.{Tree}
 use Rattle.qapi_tree.specs.declared.tree.Tree.TheOpen.{Tree-F, TreeMember-F}
 use Rattle.qapi_tree.specs.declared.tree.Tree.TheOpen as layer
-use Rattle.qapi_tree.specs.declared.tree.Tree.TheFolds.{fold-Tree, fold-TreeMember}
+use Rattle.qapi_tree.specs.declared.tree.Tree.TheFolds.{fold-Tree}
 use Rattle.qapi_tree.specs.Table.{name, keys, rule_of}
 
 abbrev pub key_in : KeyRule → Key

@@ -1,9 +1,8 @@
 ghost use Rattle.std.specs.Prelude.{◌≡◌, ◌&&◌, OnOk, IfOk};
-ghost use Rattle.std.specs.List.{list_all};
 ghost use Rattle.std.specs.Option.{option_copied};
 ghost use Rattle.std.specs.Str.{bytes_eq};
 ghost use Rattle.qapi_tree.specs.Shapes.{key_in, shape_in, is_needed as needed, rule_for as rule_of_key, takes_text as text_taken, takes_flag as flag_taken, has_shape};
-ghost use Rattle.qapi_tree.specs.Asking.{items_have, values_have, has_needed_keys as needed_keys, member_fits, members_fit, list_fits, dict_fits, Asks};
+ghost use Rattle.qapi_tree.specs.Asking.{are_shaped, items_have, values_have, has_needed_keys as needed_keys, member_fits, members_fit, list_fits, dict_fits, Asks};
 ghost use Rattle.qapi_tree.specs.Keys.{has_key as has_key_of};
 ghost use Rattle.qapi_tree.specs.Table.{name};
 
@@ -86,8 +85,8 @@ fn takes_flag(rule: ScalarRule) -> bool
 }
 
 fn ask<'a>(pending: &mut Vec<Wanted<'a>>, tree: &'a Tree, shape: Shape) -> Result<(), NoMemory>
-    ensures { OnOk result (list_all (λ w. has_shape w.tree.now w.shape) pending.new.items
-        ≡ (has_shape tree.now shape && list_all (λ w. has_shape w.tree.now w.shape) pending.old.items)) }
+    ensures { OnOk result (are_shaped pending.new.items
+        ≡ (has_shape tree.now shape && are_shaped pending.old.items)) }
 {
     match pending.push(Wanted { tree, shape }) {
         Ok(()) => Ok(()),
@@ -101,8 +100,8 @@ fn ask_items<'a>(
     items: &'a [Tree],
     shape: Shape,
 ) -> Result<(), NoMemory>
-    ensures { OnOk result (list_all (λ w. has_shape w.tree.now w.shape) pending.new.items
-        ≡ (items_have shape items.now && list_all (λ w. has_shape w.tree.now w.shape) pending.old.items)) }
+    ensures { OnOk result (are_shaped pending.new.items
+        ≡ (items_have shape items.now && are_shaped pending.old.items)) }
 {
     for item in items {
         ask(pending, item, shape)?;
@@ -116,8 +115,8 @@ fn ask_values<'a>(
     members: &'a [TreeMember],
     shape: Shape,
 ) -> Result<(), NoMemory>
-    ensures { OnOk result (list_all (λ w. has_shape w.tree.now w.shape) pending.new.items
-        ≡ (values_have shape members.now && list_all (λ w. has_shape w.tree.now w.shape) pending.old.items)) }
+    ensures { OnOk result (are_shaped pending.new.items
+        ≡ (values_have shape members.now && are_shaped pending.old.items)) }
 {
     for member in members {
         ask(pending, &member.tree, shape)?;
@@ -131,8 +130,8 @@ fn ask_member<'a>(
     form: Form,
     member: &'a TreeMember,
 ) -> Result<bool, NoMemory>
-    ensures { IfOk result (λ answer. Asks answer (list_all (λ w. has_shape w.tree.now w.shape) pending.new.items)
-        (member_fits form member.now) (list_all (λ w. has_shape w.tree.now w.shape) pending.old.items)) }
+    ensures { IfOk result (λ answer. Asks answer (are_shaped pending.new.items)
+        (member_fits form member.now) (are_shaped pending.old.items)) }
 {
     match rule_for(form, member.key.as_slice()) {
         Some(rule) => {
@@ -149,8 +148,8 @@ fn ask_members<'a>(
     form: Form,
     members: &'a [TreeMember],
 ) -> Result<bool, NoMemory>
-    ensures { IfOk result (λ answer. Asks answer (list_all (λ w. has_shape w.tree.now w.shape) pending.new.items)
-        (members_fit form members.now) (list_all (λ w. has_shape w.tree.now w.shape) pending.old.items)) }
+    ensures { IfOk result (λ answer. Asks answer (are_shaped pending.new.items)
+        (members_fit form members.now) (are_shaped pending.old.items)) }
 {
     for member in members {
         if !ask_member(pending, form, member)? {
@@ -180,8 +179,8 @@ fn ask_list<'a>(
     rule: ListRule,
     items: &'a [Tree],
 ) -> Result<bool, NoMemory>
-    ensures { IfOk result (λ answer. Asks answer (list_all (λ w. has_shape w.tree.now w.shape) pending.new.items)
-        (list_fits rule items.now) (list_all (λ w. has_shape w.tree.now w.shape) pending.old.items)) }
+    ensures { IfOk result (λ answer. Asks answer (are_shaped pending.new.items)
+        (list_fits rule items.now) (are_shaped pending.old.items)) }
 {
     match rule {
         ListRule::Never => Ok(false),
@@ -205,8 +204,8 @@ fn ask_dict<'a>(
     rule: DictRule,
     members: &'a [TreeMember],
 ) -> Result<bool, NoMemory>
-    ensures { IfOk result (λ answer. Asks answer (list_all (λ w. has_shape w.tree.now w.shape) pending.new.items)
-        (dict_fits rule members.now) (list_all (λ w. has_shape w.tree.now w.shape) pending.old.items)) }
+    ensures { IfOk result (λ answer. Asks answer (are_shaped pending.new.items)
+        (dict_fits rule members.now) (are_shaped pending.old.items)) }
 {
     match rule {
         DictRule::Never => Ok(false),
@@ -234,8 +233,8 @@ fn ask_dict<'a>(
 
 /// Asks for the shapes of the values inside; false if the value has not the shape whatever they are.
 fn ask_inside<'a>(pending: &mut Vec<Wanted<'a>>, wanted: Wanted<'a>) -> Result<bool, NoMemory>
-    ensures { IfOk result (λ answer. Asks answer (list_all (λ w. has_shape w.tree.now w.shape) pending.new.items)
-        (has_shape wanted.entry.tree.now wanted.entry.shape) (list_all (λ w. has_shape w.tree.now w.shape) pending.old.items)) }
+    ensures { IfOk result (λ answer. Asks answer (are_shaped pending.new.items)
+        (has_shape wanted.entry.tree.now wanted.entry.shape) (are_shaped pending.old.items)) }
 {
     let Wanted { tree, shape } = wanted;
     let rule = rule_of(shape);

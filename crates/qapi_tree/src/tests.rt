@@ -5,6 +5,140 @@ use qapi_lex::lex;
 use std::process::Abort;
 use std::test::Fail;
 
+/// Rows of an answer, ` | ` and a text, in which `^` stands for a line's end.
+const TOKENS: &str = "\
+ok 0 |
+ok 0 | # a comment^# alone
+syntax 1  | {
+syntax 2  | {^'a'^^
+syntax 1  | { 'a': [
+syntax 1  | }
+syntax 1  | 'a'
+syntax 1  | [ 'a' ]
+syntax 2  | ^true
+syntax 1  | { 'struct': 'A', 'data': {} },
+syntax 1  | { 'a' 'b' }
+syntax 1  | { 'a': }
+syntax 1  | { 'a': : }
+syntax 1  | { 'a': 'b', }
+syntax 1  | { 'a': 'b' 'c': 'd' }
+syntax 1  | { , }
+syntax 1  | { true: 'a' }
+syntax 1  | { 'a': [ 'b', ] }
+syntax 1  | { 'a': [ 'b' 'c' ] }
+syntax 1  | { 'a': [ 'b' } }
+syntax 1  | { 'a': { 'b': true ] }
+duplicate-key 2 a | { 'a': true,^ 'a': false }
+duplicate-key 3 b | { 'x': true }^{ 'a': [ { 'b': '',^ 'c': '', 'b' } ] }
+duplicate-key 1 a | { 'x': true } { 'pragma': { 'a': true, 'a': true } }
+";
+
+const KINDS: &str = "\
+syntax 1  | {}
+syntax 1  | { 'data': 'a' }
+syntax 2  | ^{ 'enum': 'A',^ 'struct': 'B' }
+ok 1 | { 'include': 'a.json' }
+unknown-key 1 if | { 'include': 'a.json', 'if': 'A' }
+wrong-shape 1 include | { 'include': [ 'a' ] }
+ok 1 | { 'pragma': { 'a': [ [ true ] ] } }
+unknown-key 1 data | { 'pragma': {}, 'data': {} }
+wrong-shape 1 pragma | { 'pragma': 'a' }
+ok 1 | { 'enum': 'A', 'data': [] }
+ok 1 | { 'enum': 'A', 'data': [ 'a' ], 'prefix': 'B', 'if': 'C', 'features': [ 'd' ] }
+missing-key 1 data | { 'enum': 'A' }
+unknown-key 1 base | { 'enum': 'A', 'base': 'B' }
+missing-key 1 data | { 'struct': 'A' }
+unknown-key 1 x | { 'struct': 'A', 'x': true }
+wrong-shape 1 data | { 'struct': 'A', 'data': [ 'b' ] }
+ok 1 | { 'struct': 'A', 'data': {}, 'base': 'B', 'if': 'C', 'features': [] }
+unknown-key 1 prefix | { 'struct': 'A', 'data': {}, 'prefix': 'B' }
+missing-key 1 base | { 'union': 'A' }
+missing-key 1 discriminator | { 'union': 'A', 'data': [], 'base': 'B' }
+missing-key 1 data | { 'union': 'A', 'base': {}, 'discriminator': 't' }
+ok 1 | { 'union': 'A', 'base': 'B', 'discriminator': 't', 'data': {}, 'if': 'C', 'features': [] }
+unknown-key 1 boxed | { 'union': 'A', 'boxed': true }
+ok 1 | { 'alternate': 'A', 'data': { 'a': 'str' }, 'if': 'C', 'features': [] }
+missing-key 1 data | { 'alternate': 'A' }
+unknown-key 1 base | { 'alternate': 'A', 'base': 'B' }
+ok 1 | { 'command': 'a' }
+ok 1 | { 'command': 'a', 'data': 'B', 'returns': [ 'C' ], 'boxed': true, 'gen': false }
+ok 1 | { 'command': 'a', 'allow-oob': true, 'allow-preconfig': true, 'coroutine': true }
+ok 1 | { 'command': 'a', 'success-response': false, 'if': 'C', 'features': [] }
+unknown-key 1 base | { 'command': 'a', 'base': 'B' }
+ok 1 | { 'event': 'A', 'data': { 'a': 'int' }, 'boxed': false, 'if': 'C', 'features': [] }
+unknown-key 1 returns | { 'event': 'A', 'returns': 'int' }
+unknown-key 3 x | { 'command': 'a' }\r^# \u{e9}\r^{ 'x': true,\r^ 'event': 'B', 'y': true }
+unknown-key 1 x | { 'command': true, 'x': 'y' } { 'a': true }
+wrong-shape 1 if | { 'if': true, 'command': true } { 'a': true }
+";
+
+const SHAPES: &str = "\
+wrong-shape 1 enum | { 'data': [], 'enum': [ 'A' ] }
+ok 1 | { 'enum': 'A', 'data': [ 'a', { 'name': 'b', 'if': 'C', 'features': [ 'd' ] } ] }
+wrong-shape 1 data | { 'enum': 'A', 'data': 'a' }
+wrong-shape 1 data | { 'enum': 'A', 'data': {} }
+wrong-shape 1 data | { 'enum': 'A', 'data': [ true ] }
+wrong-shape 1 data | { 'enum': 'A', 'data': [ [ 'a' ] ] }
+wrong-shape 1 data | { 'enum': 'A', 'data': [ {} ] }
+wrong-shape 1 data | { 'enum': 'A', 'data': [ { 'name': [] } ] }
+wrong-shape 1 prefix | { 'enum': 'A', 'data': [], 'prefix': false }
+wrong-shape 1 struct | { 'struct': {}, 'data': {} }
+ok 1 | { 'struct': 'A', 'data': { 'a': 'b', '*c': [ 'd' ], 'if': 'e', 'data': { 'type': [ 'f' ] } } }
+ok 1 | { 'struct': 'A', 'data': { '': { 'type': 'a', 'if': { 'not': 'B' }, 'features': [] } } }
+wrong-shape 1 data | { 'struct': 'A', 'data': 'a' }
+wrong-shape 1 data | { 'struct': 'A', 'data': { 'a': true } }
+wrong-shape 1 data | { 'struct': 'A', 'data': { 'a': [] } }
+wrong-shape 1 data | { 'struct': 'A', 'data': { 'a': [ 'b', 'c' ] } }
+wrong-shape 1 data | { 'struct': 'A', 'data': { 'a': [ [ 'b' ] ] } }
+wrong-shape 1 data | { 'struct': 'A', 'data': { 'a': {} } }
+wrong-shape 1 data | { 'struct': 'A', 'data': { 'a': { 'type': 'b', 'x': 'c' } } }
+wrong-shape 1 data | { 'struct': 'A', 'data': { 'a': { 'type': {} } } }
+wrong-shape 1 data | { 'struct': 'A', 'data': { 'a': { 'type': 'b', 'if': [] } } }
+wrong-shape 1 base | { 'struct': 'A', 'data': {}, 'base': {} }
+wrong-shape 1 union | { 'union': true, 'data': {}, 'discriminator': 'b', 'base': 'B' }
+ok 1 | { 'union': 'A', 'data': {}, 'discriminator': 'b', 'base': { 'b': 'C' } }
+ok 1 | { 'union': 'A', 'data': {}, 'discriminator': 'b', 'base': { '*d': { 'type': 'e' } } }
+wrong-shape 1 base | { 'union': 'A', 'data': {}, 'discriminator': 'b', 'base': [ 'B' ] }
+wrong-shape 1 base | { 'union': 'A', 'data': {}, 'discriminator': 'b', 'base': { 'b': true } }
+wrong-shape 1 discriminator | { 'union': 'A', 'data': {}, 'discriminator': {}, 'base': 'B' }
+ok 1 | { 'union': 'A', 'base': 'B', 'discriminator': 'b', 'data': { 'c': [ 'D' ], 'e': 'F' } }
+ok 1 | { 'union': 'A', 'base': 'B', 'discriminator': 'b', 'data': { 'e': { 'type': 'F', 'if': 'G' } } }
+wrong-shape 1 data | { 'union': 'A', 'base': 'B', 'discriminator': 'b', 'data': [] }
+wrong-shape 1 data | { 'alternate': 'A', 'data': { 'c': { 'type': 'D', 'features': [] } } }
+wrong-shape 1 data | { 'alternate': 'A', 'data': 'c' }
+wrong-shape 1 alternate | { 'alternate': [], 'data': {} }
+wrong-shape 1 command | { 'command': false }
+wrong-shape 1 data | { 'command': 'a', 'data': [ 'B' ] }
+wrong-shape 1 data | { 'command': 'a', 'data': { 'b': { 'x': 'C' } } }
+wrong-shape 1 returns | { 'command': 'a', 'returns': {} }
+wrong-shape 1 returns | { 'command': 'a', 'returns': [] }
+wrong-shape 1 returns | { 'command': 'a', 'returns': [ true ] }
+wrong-shape 1 boxed | { 'command': 'a', 'boxed': 'true' }
+wrong-shape 1 gen | { 'command': 'a', 'gen': [] }
+wrong-shape 1 allow-oob | { 'command': 'a', 'allow-oob': {} }
+wrong-shape 1 allow-preconfig | { 'command': 'a', 'allow-preconfig': 'a' }
+wrong-shape 1 coroutine | { 'command': 'a', 'coroutine': 'a' }
+wrong-shape 1 success-response | { 'command': 'a', 'success-response': 'a' }
+wrong-shape 1 event | { 'event': {} }
+wrong-shape 1 data | { 'event': 'A', 'data': false }
+wrong-shape 1 boxed | { 'event': 'A', 'boxed': '' }
+ok 1 | { 'event': 'A', 'features': [ 'b', { 'name': 'c' }, { 'if': 'D', 'name': 'e' } ] }
+wrong-shape 1 features | { 'event': 'A', 'features': 'b' }
+wrong-shape 1 features | { 'event': 'A', 'features': [ {} ] }
+wrong-shape 1 features | { 'event': 'A', 'features': [ { 'name': 'c', 'features': [] } ] }
+ok 1 | { 'event': 'A', 'if': { 'all': [] } }
+ok 1 | { 'event': 'A', 'if': { 'any': [ 'B', { 'not': { 'all': [ 'C', 'D' ] } } ] } }
+ok 1 | { 'event': 'A', 'if': { 'not': { 'not': 'B' } } }
+wrong-shape 1 if | { 'event': 'A', 'if': [ 'B' ] }
+wrong-shape 1 if | { 'event': 'A', 'if': {} }
+wrong-shape 1 if | { 'event': 'A', 'if': { 'all': 'B' } }
+wrong-shape 1 if | { 'event': 'A', 'if': { 'any': {} } }
+wrong-shape 1 if | { 'event': 'A', 'if': { 'not': [ 'B' ] } }
+wrong-shape 1 if | { 'event': 'A', 'if': { 'or': [ 'B' ] } }
+wrong-shape 1 if | { 'event': 'A', 'if': { 'all': [], 'any': [] } }
+wrong-shape 1 if | { 'event': 'A', 'if': { 'any': [ 'B', { 'not': { 'all': [ true ] } } ] } }
+";
+
 fn word_of(rule: TreeRule) -> &'static str {
     match rule {
         TreeRule::Syntax => "syntax",
@@ -32,288 +166,28 @@ fn answer(rt: &impl AllocGlobal, text: &[u8]) -> Result<String, Fail> {
     }
 }
 
-#[test]
-fn faults_of_tokens_come_first(rt: HostRuntime) -> Result<(), Fail> {
-    let cases: [(&str, &str); 24] = [
-        ("", "ok 0"),
-        ("# a comment\n# alone", "ok 0"),
-        ("{", "syntax 1 "),
-        ("{\n'a'\n\n", "syntax 2 "),
-        ("{ 'a': [", "syntax 1 "),
-        ("}", "syntax 1 "),
-        ("'a'", "syntax 1 "),
-        ("[ 'a' ]", "syntax 1 "),
-        ("\ntrue", "syntax 2 "),
-        ("{ 'struct': 'A', 'data': {} },", "syntax 1 "),
-        ("{ 'a' 'b' }", "syntax 1 "),
-        ("{ 'a': }", "syntax 1 "),
-        ("{ 'a': : }", "syntax 1 "),
-        ("{ 'a': 'b', }", "syntax 1 "),
-        ("{ 'a': 'b' 'c': 'd' }", "syntax 1 "),
-        ("{ , }", "syntax 1 "),
-        ("{ true: 'a' }", "syntax 1 "),
-        ("{ 'a': [ 'b', ] }", "syntax 1 "),
-        ("{ 'a': [ 'b' 'c' ] }", "syntax 1 "),
-        ("{ 'a': [ 'b' } }", "syntax 1 "),
-        ("{ 'a': { 'b': true ] }", "syntax 1 "),
-        ("{ 'a': true,\n 'a': false }", "duplicate-key 2 a"),
-        (
-            "{ 'x': true }\n{ 'a': [ { 'b': '',\n 'c': '', 'b' } ] }",
-            "duplicate-key 3 b",
-        ),
-        (
-            "{ 'x': true } { 'pragma': { 'a': true, 'a': true } }",
-            "duplicate-key 1 a",
-        ),
-    ];
-    for (text, line) in cases {
-        assert_eq!(rt; answer(&rt, text.as_bytes())?.as_str(), line);
-    }
-    Ok(())
-}
-
-#[test]
-fn expressions_have_a_kind_and_its_keys(rt: HostRuntime) -> Result<(), Fail> {
-    let cases: [(&str, &str); 34] = [
-        ("{}", "syntax 1 "),
-        ("{ 'data': 'a' }", "syntax 1 "),
-        ("\n{ 'enum': 'A',\n 'struct': 'B' }", "syntax 2 "),
-        ("{ 'include': 'a.json' }", "ok 1"),
-        ("{ 'include': 'a.json', 'if': 'A' }", "unknown-key 1 if"),
-        ("{ 'include': [ 'a' ] }", "wrong-shape 1 include"),
-        ("{ 'pragma': { 'a': [ [ true ] ] } }", "ok 1"),
-        ("{ 'pragma': {}, 'data': {} }", "unknown-key 1 data"),
-        ("{ 'pragma': 'a' }", "wrong-shape 1 pragma"),
-        ("{ 'enum': 'A', 'data': [] }", "ok 1"),
-        (
-            "{ 'enum': 'A', 'data': [ 'a' ], 'prefix': 'B', 'if': 'C', 'features': [ 'd' ] }",
-            "ok 1",
-        ),
-        ("{ 'enum': 'A' }", "missing-key 1 data"),
-        ("{ 'enum': 'A', 'base': 'B' }", "unknown-key 1 base"),
-        ("{ 'struct': 'A' }", "missing-key 1 data"),
-        ("{ 'struct': 'A', 'x': true }", "unknown-key 1 x"),
-        (
-            "{ 'struct': 'A', 'data': {}, 'base': 'B', 'if': 'C', 'features': [] }",
-            "ok 1",
-        ),
-        (
-            "{ 'struct': 'A', 'data': {}, 'prefix': 'B' }",
-            "unknown-key 1 prefix",
-        ),
-        ("{ 'union': 'A' }", "missing-key 1 base"),
-        (
-            "{ 'union': 'A', 'data': [], 'base': 'B' }",
-            "missing-key 1 discriminator",
-        ),
-        (
-            "{ 'union': 'A', 'base': {}, 'discriminator': 't' }",
-            "missing-key 1 data",
-        ),
-        (
-            "{ 'union': 'A', 'base': 'B', 'discriminator': 't', 'data': {}, 'if': 'C', 'features': [] }",
-            "ok 1",
-        ),
-        ("{ 'union': 'A', 'boxed': true }", "unknown-key 1 boxed"),
-        (
-            "{ 'alternate': 'A', 'data': { 'a': 'str' }, 'if': 'C', 'features': [] }",
-            "ok 1",
-        ),
-        ("{ 'alternate': 'A' }", "missing-key 1 data"),
-        ("{ 'alternate': 'A', 'base': 'B' }", "unknown-key 1 base"),
-        ("{ 'command': 'a' }", "ok 1"),
-        (
-            "{ 'command': 'a', 'data': 'B', 'returns': [ 'C' ], 'boxed': true, 'gen': false }",
-            "ok 1",
-        ),
-        (
-            "{ 'command': 'a', 'allow-oob': true, 'allow-preconfig': true, 'coroutine': true }",
-            "ok 1",
-        ),
-        (
-            "{ 'command': 'a', 'success-response': false, 'if': 'C', 'features': [] }",
-            "ok 1",
-        ),
-        ("{ 'command': 'a', 'base': 'B' }", "unknown-key 1 base"),
-        (
-            "{ 'event': 'A', 'data': { 'a': 'int' }, 'boxed': false, 'if': 'C', 'features': [] }",
-            "ok 1",
-        ),
-        (
-            "{ 'event': 'A', 'returns': 'int' }",
-            "unknown-key 1 returns",
-        ),
-        (
-            "{ 'command': 'a' }\r\n# \u{e9}\r\n{ 'x': true,\r\n 'event': 'B', 'y': true }",
-            "unknown-key 3 x",
-        ),
-        (
-            "{ 'command': true, 'x': 'y' } { 'a': true }",
-            "unknown-key 1 x",
-        ),
-    ];
-    for (text, line) in cases {
-        assert_eq!(rt; answer(&rt, text.as_bytes())?.as_str(), line);
-    }
-    Ok(())
-}
-
-/// The answer to a text of this value under a key of an expression, which is whole otherwise.
-fn answer_to(rt: &impl AllocGlobal, before: &str, value: &str) -> Result<String, Fail> {
-    let text = format!(in rt.alloc(); "{}{} }}", before, value)?;
-    answer(rt, text.as_bytes())
-}
-
-#[test]
-fn each_key_has_its_shape(rt: HostRuntime) -> Result<(), Fail> {
-    let cases: [(&str, &[&str], &[&str], &str); 15] = [
-        (
-            "{ 'data': [], 'enum': ",
-            &["'A'"],
-            &["true", "[ 'A' ]", "{}"],
-            "wrong-shape 1 enum",
-        ),
-        (
-            "{ 'enum': 'A', 'data': ",
-            &[
-                "[]",
-                "[ 'a', { 'name': 'b', 'if': 'C', 'features': [ 'd' ] } ]",
-            ],
-            &[
-                "'a'",
-                "{}",
-                "[ true ]",
-                "[ [ 'a' ] ]",
-                "[ {} ]",
-                "[ { 'name': [] } ]",
-            ],
-            "wrong-shape 1 data",
-        ),
-        (
-            "{ 'enum': 'A', 'data': [], 'prefix': ",
-            &["''"],
-            &["false", "[]", "{}"],
-            "wrong-shape 1 prefix",
-        ),
-        (
-            "{ 'struct': 'A', 'data': ",
-            &[
-                "{ 'a': 'b', '*c': [ 'd' ], 'if': 'e', 'data': { 'type': [ 'f' ] } }",
-                "{ '': { 'type': 'a', 'if': { 'not': 'B' }, 'features': [] } }",
-            ],
-            &[
-                "'a'",
-                "[ 'b' ]",
-                "{ 'a': true }",
-                "{ 'a': [] }",
-                "{ 'a': [ 'b', 'c' ] }",
-                "{ 'a': [ [ 'b' ] ] }",
-                "{ 'a': {} }",
-                "{ 'a': { 'type': 'b', 'x': 'c' } }",
-                "{ 'a': { 'type': {} } }",
-            ],
-            "wrong-shape 1 data",
-        ),
-        (
-            "{ 'struct': 'A', 'data': {}, 'base': ",
-            &["'B'"],
-            &["{}", "[ 'B' ]", "true"],
-            "wrong-shape 1 base",
-        ),
-        (
-            "{ 'union': 'A', 'data': {}, 'discriminator': 'b', 'base': ",
-            &[
-                "'B'",
-                "{}",
-                "{ 'b': 'C', '*d': { 'type': 'e', 'features': [ 'f' ] } }",
-            ],
-            &["[ 'B' ]", "{ 'b': true }", "false"],
-            "wrong-shape 1 base",
-        ),
-        (
-            "{ 'union': 'A', 'data': {}, 'base': 'B', 'discriminator': ",
-            &["'b'"],
-            &["{}", "[]"],
-            "wrong-shape 1 discriminator",
-        ),
-        (
-            "{ 'union': 'A', 'base': 'B', 'discriminator': 'b', 'data': ",
-            &["{}", "{ 'c': 'D', 'e': { 'type': [ 'F' ], 'if': 'G' } }"],
-            &["'c'", "[]", "{ 'c': { 'type': 'D', 'features': [] } }"],
-            "wrong-shape 1 data",
-        ),
-        (
-            "{ 'alternate': 'A', 'data': ",
-            &["{ 'c': [ 'D' ], 'e': { 'type': 'F', 'if': 'G' } }"],
-            &["'c'", "[]", "{ 'c': { 'type': 'D', 'features': [] } }"],
-            "wrong-shape 1 data",
-        ),
-        (
-            "{ 'command': 'a', 'data': ",
-            &["'B'", "{ 'b': 'C' }"],
-            &["[ 'B' ]", "true", "{ 'b': { 'x': 'C' } }"],
-            "wrong-shape 1 data",
-        ),
-        (
-            "{ 'command': 'a', 'returns': ",
-            &["'B'", "[ 'B' ]"],
-            &["{}", "[]", "[ true ]", "[ 'B', 'C' ]"],
-            "wrong-shape 1 returns",
-        ),
-        (
-            "{ 'command': 'a', 'allow-oob': ",
-            &["true", "false"],
-            &["'true'", "[]", "{}"],
-            "wrong-shape 1 allow-oob",
-        ),
-        (
-            "{ 'event': 'A', 'data': ",
-            &["'B'", "{ 'b': 'C' }"],
-            &["[ 'B' ]", "false"],
-            "wrong-shape 1 data",
-        ),
-        (
-            "{ 'event': 'A', 'features': ",
-            &["[]", "[ 'b', { 'name': 'c' }, { 'if': 'D', 'name': 'e' } ]"],
-            &[
-                "'b'",
-                "{}",
-                "[ {} ]",
-                "[ { 'name': 'c', 'features': [] } ]",
-                "[ true ]",
-            ],
-            "wrong-shape 1 features",
-        ),
-        (
-            "{ 'event': 'A', 'if': ",
-            &[
-                "'B'",
-                "{ 'all': [] }",
-                "{ 'any': [ 'B', { 'not': { 'all': [ 'C', 'D' ] } } ] }",
-                "{ 'not': { 'not': 'B' } }",
-            ],
-            &[
-                "true",
-                "[ 'B' ]",
-                "{}",
-                "{ 'all': 'B' }",
-                "{ 'any': {} }",
-                "{ 'not': [ 'B' ] }",
-                "{ 'or': [ 'B' ] }",
-                "{ 'all': [], 'any': [] }",
-                "{ 'any': [ 'B', { 'not': { 'all': [ 'C', true ] } } ] }",
-            ],
-            "wrong-shape 1 if",
-        ),
-    ];
-    for (before, right, wrong, line) in cases {
-        for value in right {
-            assert_eq!(rt; answer_to(&rt, before, value)?.as_str(), "ok 1");
-        }
-        for value in wrong {
-            assert_eq!(rt; answer_to(&rt, before, value)?.as_str(), line);
+/// The rows that have another answer.
+fn other_answers(rt: &impl AllocGlobal, rows: &str) -> Result<String, Fail> {
+    let mut others = String::new(rt.alloc());
+    for row in rows.lines() {
+        let mut parts = row.splitn(2, " |");
+        let wanted = parts.next().unwrap_or("");
+        let text = parts.next().unwrap_or("").replace(rt.alloc(), "^", "\n")?;
+        let given = answer(rt, text.as_bytes())?;
+        if given.as_str() != wanted {
+            others.push_str(row)?;
+            others.push_str("\n")?;
         }
     }
+    Ok(others)
+}
+
+#[test]
+fn each_text_has_its_answer(rt: HostRuntime) -> Result<(), Fail> {
+    assert_eq!(rt; other_answers(&rt, TOKENS)?.as_str(), "");
+    assert_eq!(rt; other_answers(&rt, KINDS)?.as_str(), "");
+    assert_eq!(rt; other_answers(&rt, SHAPES)?.as_str(), "");
+    assert_eq!(rt; other_answers(&rt, "ok 7 | {}\n")?.as_str(), "ok 7 | {}\n");
     Ok(())
 }
 
@@ -368,15 +242,18 @@ fn members_stand_in_their_order(rt: HostRuntime) -> Result<(), Fail> {
     Ok(())
 }
 
-/// How a text nests: what stands before, the opener, what stands innermost, the closer, and what
-/// stands after.
-type Nest = (
-    &'static str,
-    &'static str,
-    &'static str,
-    &'static str,
-    &'static str,
-);
+/// Rows of an answer, and of a text by what stands before, the opener, what stands innermost, the
+/// closer, and what stands after.
+const NESTS: &str = "\
+ok 1 |{ 'pragma': { 'a': |[||]|} }
+ok 1 |{ 'pragma': { 'a': |[true,|[]|]|} }
+ok 1 |{ 'pragma': { 'a': |[|{}|,{'b':[]}]|} }
+ok 1 |{ 'event': 'A', 'if': |{'not':|'B'|}|}
+wrong-shape 1 data |{ 'struct': 'A', 'data': |[||]|}
+syntax 1  |{ 'struct': 'A', 'data': |[||]|]
+syntax 1  |{ 'struct': 'A', 'data': |[|||}
+syntax 1  |{ 'pragma': |{'a':|true|}|
+";
 
 fn repeat(text: &mut Vec<u8>, piece: &str) -> Result<(), Fail> {
     for _ in 0..325_000 {
@@ -385,42 +262,26 @@ fn repeat(text: &mut Vec<u8>, piece: &str) -> Result<(), Fail> {
     Ok(())
 }
 
+/// The text of a row's parts, in which the opener and the closer stand so many times.
+fn nested(rt: &impl AllocGlobal, parts: &[&str]) -> Result<Vec<u8>, Fail> {
+    let mut text = Vec::new(rt.alloc());
+    for (i, part) in parts.iter().enumerate() {
+        if i == 2 || i == 4 {
+            repeat(&mut text, part)?;
+        } else if i > 0 {
+            text.extend_from_slice(part.as_bytes())?;
+        }
+    }
+    Ok(text)
+}
+
 #[test]
 fn nesting_has_no_bound(rt: HostRuntime) -> Result<(), Fail> {
-    let cases: [(Nest, &str); 8] = [
-        (("{ 'pragma': { 'a': ", "[", "", "]", " } }"), "ok 1"),
-        (("{ 'pragma': { 'a': ", "[true,", "[]", "]", " } }"), "ok 1"),
-        (
-            ("{ 'pragma': { 'a': ", "[", "{}", ",{'b':[]}]", " } }"),
-            "ok 1",
-        ),
-        (
-            ("{ 'event': 'A', 'if': ", "{'not':", "'B'", "}", " }"),
-            "ok 1",
-        ),
-        (
-            ("{ 'struct': 'A', 'data': ", "[", "", "]", " }"),
-            "wrong-shape 1 data",
-        ),
-        (
-            ("{ 'struct': 'A', 'data': ", "[", "", "]", " ]"),
-            "syntax 1 ",
-        ),
-        (
-            ("{ 'struct': 'A', 'data': ", "[", "", "", " }"),
-            "syntax 1 ",
-        ),
-        (("{ 'pragma': ", "{'a':", "true", "}", ""), "syntax 1 "),
-    ];
-    for (nest, line) in cases {
-        let (before, opener, inner, closer, after) = nest;
-        let mut text = Vec::new(rt.alloc());
-        text.extend_from_slice(before.as_bytes())?;
-        repeat(&mut text, opener)?;
-        text.extend_from_slice(inner.as_bytes())?;
-        repeat(&mut text, closer)?;
-        text.extend_from_slice(after.as_bytes())?;
-        assert_eq!(rt; answer(&rt, text.as_slice())?.as_str(), line);
+    for row in NESTS.lines() {
+        let parts = row.split("|").collect::<Vec<_>>(rt.alloc())?;
+        let text = nested(&rt, parts.as_slice())?;
+        let given = format!(in rt.alloc(); "{} ", answer(&rt, text.as_slice())?)?;
+        assert!(rt; row.starts_with(given.as_str()));
     }
     Ok(())
 }
