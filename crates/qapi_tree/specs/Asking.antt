@@ -1,4 +1,5 @@
--- Shapes of values by those of the values inside. This serves private functions: shapes are stated without it.
+-- Shapes of values by those of the values inside. This serves private functions: shapes are stated
+-- without it.
 use Rattle.std.specs.Prelude.{◌≡◌, ◌==◌, Bool, true, false, not, ◌&&◌, ◌||◌, List, length}
 use Rattle.std.specs.List.{list_all}
 use Rattle.qapi_tree.specs.declared.shapes.Wanted.{Wanted}
@@ -25,7 +26,8 @@ abbrev pub values_have : Shape → List TreeMember → Bool
 values_have shape members = list_all (λ m. has_shape m.tree shape) members
 
 abbrev pub has_needed_keys : Form → List TreeMember → Bool
-has_needed_keys form members = list_all (λ r. not (is_needed r) || has_key members (name (key_in r))) (keys form)
+has_needed_keys form members =
+    list_all (λ r. not (is_needed r) || has_key members (name (key_in r))) (keys form)
 
 abbrev pub member_fits : Form → TreeMember → Bool
 member_fits form m = fits_rule (rule_for form m.key) (has_shape m.tree)
@@ -45,7 +47,7 @@ dict_fits (dict.Each shape) members = values_have shape members
 dict_fits (dict.Of form) members = has_needed_keys form members && members_fit form members
 dict_fits (dict.OneOf form) members = (length members == 1) && members_fit form members
 
--- the values that are asked about, the new ones among them, are all of their shapes exactly where those before
--- were and this holds; false says that it does not hold
+-- the values that are asked about, the new ones among them, all have their shapes exactly where
+-- those before had and this holds; false says that it does not hold
 abbrev pub Asks : Bool → Bool → Bool → Bool → Type 0
 Asks answer new holds old = (answer && new) ≡ (holds && old)

@@ -1,5 +1,6 @@
--- The first fault of an expression: its kind, then the first unknown key, the first missing key, and the
--- first value of a wrong shape (QAPI code generation guide, "Schema syntax"; the order is this project's own rule).
+-- The first fault of an expression: its kind, then the first unknown key, the first missing key,
+-- and the first value of a wrong shape (QAPI code generation guide, "Schema syntax"; the order is
+-- this project's own rule).
 use Rattle.std.specs.Prelude.{ℕ, not, ◌&&◌, List, [], ◌∷◌, Option, Some, None, find, Result, Ok, Err}
 use Rattle.std.specs.Option.{option_map, option_or, is_none}
 use Rattle.std.specs.List.{filter}
@@ -30,10 +31,12 @@ abbrev pub first_unknown : Form → List TreeMember → Option TreeMember
 first_unknown form members = find (λ m. is_none (rule_for form m.key)) members
 
 abbrev pub first_missing : Form → List TreeMember → Option KeyRule
-first_missing form members = find (λ r. is_needed r && not (has_key members (name (key_in r)))) (keys form)
+first_missing form members =
+    find (λ r. is_needed r && not (has_key members (name (key_in r)))) (keys form)
 
 abbrev pub first_wrong : Form → List TreeMember → Option TreeMember
-first_wrong form members = find (λ m. not (fits_rule (rule_for form m.key) (has_shape m.tree))) members
+first_wrong form members =
+    find (λ m. not (fits_rule (rule_for form m.key) (has_shape m.tree))) members
 
 -- the first fault of an expression of a kind, whose `{` stands in a line
 abbrev pub fault_in : ℕ → List TreeMember → Option Form → Option TreeFault
@@ -55,6 +58,6 @@ abbrev pub unless_faulty : List Expr → Option TreeFault → Result (List Expr)
 unless_faulty exprs None = Ok exprs
 unless_faulty exprs (Some f) = Err f
 
--- the expressions that tokens hold, or the first fault: first of all tokens, then of the expressions
+-- the expressions that tokens hold, or the first fault: of the tokens, and then of the expressions
 unfoldable pub expressions_of : List Token → Result (List Expr) TreeFault
 expressions_of ts = on (objects_of ts) (λ exprs. unless_faulty exprs (first_fault exprs))

@@ -1,5 +1,6 @@
--- The objects that a row of tokens holds, or the first token that cannot stand where it stands (QAPI code
--- generation guide, "Schema syntax"; that the text's end has the last token's line is this project's own rule).
+-- The objects that a row of tokens holds, or the first token that cannot stand where it stands
+-- (QAPI code generation guide, "Schema syntax"; that the text's end has the last token's line is
+-- this project's own rule).
 use Rattle.std.specs.Prelude.{◌≡◌, ◌≢◌, ℕ, List, [], ◌∷◌, Result, Ok, Err}
 use Rattle.qapi_lex.specs.declared.token.Token.{Token}
 use Rattle.qapi_tree.specs.declared.fault.TreeFault.{TreeFault}

@@ -50,7 +50,8 @@ fits_key form m = fits_rule (rule_for form m.key) m.has
 
 -- the keys that the form wants are there
 abbrev pub has_needed : Form → List (List ℕ) → Bool
-has_needed form names = list_all (λ r. not (is_needed r) || list_any (λ key. bytes_eq key (name (key_in r))) names) (keys form)
+has_needed form names =
+    list_all (λ r. not (is_needed r) || list_any (λ key. bytes_eq key (name (key_in r))) names) (keys form)
 
 abbrev pub takes_text : ScalarRule → Bool
 takes_text scalar.Text = true
@@ -71,7 +72,8 @@ abbrev pub takes_dict : DictRule → List KeyAndShapes → Bool
 takes_dict dict.Never members = false
 takes_dict dict.Any members = true
 takes_dict (dict.Each shape) members = list_all (λ m. m.has shape) members
-takes_dict (dict.Of form) members = has_needed form (map (λ m. m.key) members) && list_all (fits_key form) members
+takes_dict (dict.Of form) members =
+    has_needed form (map (λ m. m.key) members) && list_all (fits_key form) members
 takes_dict (dict.OneOf form) members = (length members == 1) && list_all (fits_key form) members
 
 -- one layer, with the shapes of each inner value in its place

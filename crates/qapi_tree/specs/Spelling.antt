@@ -1,5 +1,5 @@
--- Which tokens spell which expressions: a grammar by cases (QAPI code generation guide, "Schema syntax"; that
--- keys are distinct is this project's own rule).
+-- Which tokens spell which expressions: a grammar by cases (QAPI code generation guide, "Schema
+-- syntax"; that keys are distinct is this project's own rule).
 use Rattle.std.specs.Prelude.{◌≡◌, ℕ, Bool, false, List, [], ◌∷◌, ◌++◌}
 use Rattle.qapi_lex.specs.declared.token.Token.{Token}
 use Rattle.qapi_lex.specs.declared.token.TokenKind.{TokenKind}

@@ -1,5 +1,6 @@
 -- What one more token does: whether it may stand there, and whether it is a key that the object has
--- already (QAPI code generation guide, "Schema syntax"; the order of the faults is this project's own rule).
+-- already (QAPI code generation guide, "Schema syntax"; the order of the faults is this project's own
+-- rule).
 use Rattle.std.specs.Prelude.{ℕ, ◌==◌, cond, List, [], ◌∷◌, Result, Ok, Err}
 use Rattle.qapi_lex.specs.declared.token.Token.{Token}
 use Rattle.qapi_lex.specs.declared.token.TokenKind.{TokenKind}
@@ -21,15 +22,21 @@ value_step s v line = cond (takes_value s.expect) (Ok (put v s.stack)) (Err (syn
 
 abbrev pub open_list : State → ℕ → Result State TreeFault
 open_list s line =
-    cond (takes_value s.expect) (Ok record { stack = opens.List [] ∷ s.stack; expect = ValueOrEnd }) (Err (syntax_fault line))
+    cond (takes_value s.expect)
+    (Ok record { stack = opens.List [] ∷ s.stack; expect = ValueOrEnd })
+    (Err (syntax_fault line))
 
 abbrev pub open_object : State → ℕ → Result State TreeFault
 open_object s line =
-    cond (takes_object s.expect) (Ok record { stack = opens.Dict [] [] line ∷ s.stack; expect = KeyOrEnd }) (Err (syntax_fault line))
+    cond (takes_object s.expect)
+    (Ok record { stack = opens.Dict [] [] line ∷ s.stack; expect = KeyOrEnd })
+    (Err (syntax_fault line))
 
 abbrev pub key_step : List Open → List ℕ → ℕ → Result State TreeFault
 key_step (opens.Dict members old begun ∷ outer) key line =
-    cond (has_key members key) (Err (fault DuplicateKey line key)) (Ok record { stack = opens.Dict members key begun ∷ outer; expect = Colon })
+    cond (has_key members key)
+    (Err (fault DuplicateKey line key))
+    (Ok record { stack = opens.Dict members key begun ∷ outer; expect = Colon })
 key_step _ key line = Err (syntax_fault line)
 
 abbrev pub close_list : List Open → ℕ → Result State TreeFault
@@ -60,7 +67,8 @@ mark_step s x line =
 
 -- a string is a key where a key may stand, and else a value
 abbrev pub string_step : State → List ℕ → ℕ → Result State TreeFault
-string_step s text line = cond (takes_key s.expect) (key_step s.stack text line) (value_step s (trees.Str text) line)
+string_step s text line =
+    cond (takes_key s.expect) (key_step s.stack text line) (value_step s (trees.Str text) line)
 
 abbrev pub kind_step : State → TokenKind → ℕ → Result State TreeFault
 kind_step s (Mark x) line = mark_step s x line

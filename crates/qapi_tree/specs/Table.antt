@@ -1,5 +1,5 @@
--- The kinds of expressions, the keys of each form of object, and the shapes of values (QAPI code generation
--- guide, "Schema syntax"; the lenient points of shapes are this project's own rule).
+-- The kinds of expressions, the keys of each form of object, and the shapes of values (QAPI code
+-- generation guide, "Schema syntax"; the lenient points of shapes are this project's own rule).
 use Rattle.std.specs.Prelude.{ℕ, List, [], ◌∷◌, codes}
 use Rattle.qapi_tree.specs.declared.table.Key.{Key}
 use Rattle.qapi_tree.specs.declared.table.Key.TheVariants as key

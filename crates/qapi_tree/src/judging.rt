@@ -45,7 +45,8 @@ fn first_unknown(form: Form, members: &[TreeMember]) -> Option<&TreeMember>
 }
 
 fn is_missing(rule: &KeyRule, members: &[TreeMember]) -> bool
-    ensures { result ≡ (is_needed rule.now && not (has_key_of members.now (name (key_in rule.now)))) }
+    ensures { result ≡
+        (is_needed rule.now && not (has_key_of members.now (name (key_in rule.now)))) }
 {
     rule.is_needed() && !has_key(members, name_of(rule.key()))
 }

@@ -146,30 +146,33 @@ fn give_object(
     }
 }
 
-/// Makes a place for a value, so that the value takes no memory once it is whole.
-fn make_place(alloc: Global, top: &mut Open) -> Result<(), NoMemory>
+/// Takes the memory for one more item, which takes none from then on.
+fn make_place<T: Drop>(items: &mut Items<T>, item: T) -> Result<(), NoMemory>
+    ensures { OnOk result (items.new ≡ items.old) }
+{
+    match items.push(item) {
+        Ok(()) => {
+            let _ = items.pop();
+            Ok(())
+        }
+        Err(_) => Err(NoMemory),
+    }
+}
+
+/// Takes the memory for one more value, so that a value is not let go for want of it once it is
+/// whole and may nest deeply.
+fn make_place_in(alloc: Global, top: &mut Open) -> Result<(), NoMemory>
     ensures { OnOk result (top.new ≡ top.old) }
 {
+    let tree = Tree::Flag(false);
     match top {
-        Open::File(_) => {}
-        Open::List(items) => {
-            if let Err(_) = items.push(Tree::Flag(false)) {
-                return Err(NoMemory);
-            }
-            let _ = items.pop();
-        }
+        Open::File(_) => Ok(()),
+        Open::List(items) => make_place(items, tree),
         Open::Dict(members, _, _) => {
-            let place = TreeMember {
-                key: Text::new(alloc),
-                tree: Tree::Flag(false),
-            };
-            if let Err(_) = members.push(place) {
-                return Err(NoMemory);
-            }
-            let _ = members.pop();
+            let key = Text::new(alloc);
+            make_place(members, TreeMember { key, tree })
         }
     }
-    Ok(())
 }
 
 fn is_list(top: &Open) -> bool
@@ -252,7 +255,8 @@ impl Parser {
     fn open(&mut self, top: Open, next: Expect) -> Result<(), NoMemory>
         ensures { OnOk result (self.new ≡ record { stack = top ∷ self.old.stack; expect = next }) }
     {
-        make_place(self.alloc, &mut self.current)?;
+        make_place_in(self.alloc, &mut self.current)?;
+        make_place(&mut self.outer, Open::List(Items::new(self.alloc)))?;
         let outer = mem::replace(&mut self.current, top);
         match self.outer.push(outer) {
             Ok(()) => {

@@ -36,8 +36,8 @@ fn objects(alloc: Global, tokens: &TokenList) -> Result<TreeList, TreeFault>
 /// The expressions of a schema's tokens, or their first fault (QAPI code generation guide, "Schema
 /// syntax"). First all tokens are looked at from the left, and then the expressions in their order.
 ///
-/// - `Syntax`, of tokens: this one cannot stand there, or the text ends inside an object; the line is
-///   the token's, at the end that of the last token.
+/// - `Syntax`, of tokens: this one cannot stand there, or the text ends inside an object; the line
+///   is the token's, at the end that of the last token.
 /// - `DuplicateKey`: the object has the key already; the line is that of the second.
 /// - `Syntax`, of an expression: it has the key of no kind, or of two.
 /// - `UnknownKey`: the first key that its kind does not have.

@@ -231,7 +231,8 @@ fn ask_dict<'a>(
     }
 }
 
-/// Asks for the shapes of the values inside; false if the value has not the shape whatever they are.
+/// Asks for the shapes of the values inside; false if the value has not the shape whatever they
+/// are.
 fn ask_inside<'a>(pending: &mut Vec<Wanted<'a>>, wanted: Wanted<'a>) -> Result<bool, NoMemory>
     ensures { IfOk result (λ answer. Asks answer (are_shaped pending.new.items)
         (has_shape wanted.entry.tree.now wanted.entry.shape) (are_shaped pending.old.items)) }

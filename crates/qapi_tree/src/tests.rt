@@ -83,7 +83,8 @@ wrong-shape 1 data | { 'enum': 'A', 'data': [ {} ] }
 wrong-shape 1 data | { 'enum': 'A', 'data': [ { 'name': [] } ] }
 wrong-shape 1 prefix | { 'enum': 'A', 'data': [], 'prefix': false }
 wrong-shape 1 struct | { 'struct': {}, 'data': {} }
-ok 1 | { 'struct': 'A', 'data': { 'a': 'b', '*c': [ 'd' ], 'if': 'e', 'data': { 'type': [ 'f' ] } } }
+ok 1 | { 'struct': 'A', 'data': { 'a': 'b', '*c': [ 'd' ], 'if': 'e', 'data': 'f' } }
+ok 1 | { 'struct': 'A', 'data': { 'type': { 'type': [ 'f' ] } } }
 ok 1 | { 'struct': 'A', 'data': { '': { 'type': 'a', 'if': { 'not': 'B' }, 'features': [] } } }
 wrong-shape 1 data | { 'struct': 'A', 'data': 'a' }
 wrong-shape 1 data | { 'struct': 'A', 'data': { 'a': true } }
@@ -102,7 +103,8 @@ wrong-shape 1 base | { 'union': 'A', 'data': {}, 'discriminator': 'b', 'base': [
 wrong-shape 1 base | { 'union': 'A', 'data': {}, 'discriminator': 'b', 'base': { 'b': true } }
 wrong-shape 1 discriminator | { 'union': 'A', 'data': {}, 'discriminator': {}, 'base': 'B' }
 ok 1 | { 'union': 'A', 'base': 'B', 'discriminator': 'b', 'data': { 'c': [ 'D' ], 'e': 'F' } }
-ok 1 | { 'union': 'A', 'base': 'B', 'discriminator': 'b', 'data': { 'e': { 'type': 'F', 'if': 'G' } } }
+ok 1 | { 'union': 'A', 'base': 'B', 'discriminator': 'b', 'data': { 'e': { 'type': 'F' } } }
+ok 1 | { 'alternate': 'A', 'data': { 'e': { 'type': 'F', 'if': 'G' } } }
 wrong-shape 1 data | { 'union': 'A', 'base': 'B', 'discriminator': 'b', 'data': [] }
 wrong-shape 1 data | { 'alternate': 'A', 'data': { 'c': { 'type': 'D', 'features': [] } } }
 wrong-shape 1 data | { 'alternate': 'A', 'data': 'c' }
