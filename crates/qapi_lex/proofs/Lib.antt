@@ -1,2 +1,4 @@
+pub mod Covers
 pub mod FaultLaws
 pub mod PieceLaws
+pub mod Splits

@@ -1,4 +1,8 @@
-ghost use Rattle.std.specs.Prelude.{◌≡◌, ◌≢◌, ◌≤◌, ◌++◌, List, ℕ, length, drop, OnOk, Ok, Err};
+ghost use Rattle.std.specs.Prelude.{◌≡◌, ◌≢◌, ◌≤◌, ◌++◌, ◌↔◌, List, ℕ, length, drop, OnOk, Result, Ok, Err};
+ghost use Rattle.qapi_lex.specs.declared.fault.LexFault.{LexFault};
+ghost use Rattle.qapi_lex.specs.declared.token.Token.{Token};
+ghost use Rattle.qapi_lex.specs.Splitting.{Lexes};
+ghost use Rattle.qapi_lex.specs.Spots.{beginning};
 ghost use Rattle.qapi_lex.specs.Tokens.{tokens_in, tokens_of};
 
 use crate::LexFault;
@@ -62,6 +66,13 @@ pub fn lex(alloc: Global, text: &[u8]) -> Result<TokenList, LexFault>
     }
     Ok(tokens)
 }
+
+/// A text has these tokens, or this first fault, exactly where it splits so by cases: into white
+/// space, comments and tokens.
+pub fn each_text_splits()
+    ensures { (text : List ℕ) (answer : Result (List Token) LexFault) →
+        (tokens_of text ≡ answer) ↔ Lexes beginning text answer }
+{}
 
 /// Want of memory is no fault of a text.
 pub fn memory_is_no_fault()

@@ -9,7 +9,7 @@ mod spot;
 pub mod token;
 
 pub use fault::LexFault;
-pub use lexing::{lex, memory_is_no_fault};
+pub use lexing::{each_text_splits, lex, memory_is_no_fault};
 pub use token::{Token, TokenKind, TokenList};
 
 #[cfg(test)]

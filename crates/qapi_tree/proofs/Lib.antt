@@ -1,0 +1,6 @@
+pub mod Accepts
+pub mod FaultLaws
+pub mod Holds
+pub mod FormLaws
+pub mod Results
+pub mod ShapeLaws

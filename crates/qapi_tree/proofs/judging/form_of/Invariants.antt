@@ -1,0 +1,11 @@
+use Rattle.std.proofs.Common.{◌≡◌, drop}
+use Rattle.std.specs.List.{filter}
+use Rattle.qapi_tree.specs.Judging.{form_of}
+use Rattle.qapi_tree.specs.Keys.{has_key}
+use Rattle.qapi_tree.specs.Table.{name}
+use Rattle.qapi_tree.proofs.FormLaws.{settled}
+use Rattle.qapi_tree.proofs.judging.form_of.Given as goal
+
+-- the form so far, with the kinds that are left
+abbrev pub invariant-loop-kind : goal.invariant-loop-kind
+invariant-loop-kind l = settled l.form (filter (λ k. has_key l.members (name k.key)) (drop l.kind-index l.kind-items)) ≡ form_of l.members

@@ -1,0 +1,53 @@
+-- Shapes of values by those of the values inside. This serves private functions: shapes are stated
+-- without it.
+use Rattle.std.specs.Prelude.{◌≡◌, ◌==◌, Bool, true, false, not, ◌&&◌, ◌||◌, List, length}
+use Rattle.std.specs.List.{list_all}
+use Rattle.qapi_tree.specs.declared.shapes.Wanted.{Wanted}
+use Rattle.qapi_tree.specs.declared.table.Form.{Form}
+use Rattle.qapi_tree.specs.declared.table.Shape.{Shape}
+use Rattle.qapi_tree.specs.declared.table.ListRule.{ListRule}
+use Rattle.qapi_tree.specs.declared.table.ListRule.TheVariants as list
+use Rattle.qapi_tree.specs.declared.table.DictRule.{DictRule}
+use Rattle.qapi_tree.specs.declared.table.DictRule.TheVariants as dict
+use Rattle.qapi_tree.specs.declared.tree.Tree.{Tree}
+use Rattle.qapi_tree.specs.declared.tree.TreeMember.{TreeMember}
+use Rattle.qapi_tree.specs.Keys.{has_key}
+use Rattle.qapi_tree.specs.Shapes.{key_in, is_needed, rule_for, fits_rule, has_shape}
+use Rattle.qapi_tree.specs.Table.{name, keys}
+
+-- each value that is asked about has its shape
+abbrev pub are_shaped : List Wanted → Bool
+are_shaped wanted = list_all (λ w. has_shape w.tree.now w.shape) wanted
+
+abbrev pub items_have : Shape → List Tree → Bool
+items_have shape items = list_all (λ t. has_shape t shape) items
+
+abbrev pub values_have : Shape → List TreeMember → Bool
+values_have shape members = list_all (λ m. has_shape m.tree shape) members
+
+abbrev pub has_needed_keys : Form → List TreeMember → Bool
+has_needed_keys form members =
+    list_all (λ r. not (is_needed r) || has_key members (name (key_in r))) (keys form)
+
+abbrev pub member_fits : Form → TreeMember → Bool
+member_fits form m = fits_rule (rule_for form m.key) (has_shape m.tree)
+
+abbrev pub members_fit : Form → List TreeMember → Bool
+members_fit form members = list_all (member_fits form) members
+
+abbrev pub list_fits : ListRule → List Tree → Bool
+list_fits list.Never items = false
+list_fits (list.One shape) items = (length items == 1) && items_have shape items
+list_fits (list.Each shape) items = items_have shape items
+
+abbrev pub dict_fits : DictRule → List TreeMember → Bool
+dict_fits dict.Never members = false
+dict_fits dict.Any members = true
+dict_fits (dict.Each shape) members = values_have shape members
+dict_fits (dict.Of form) members = has_needed_keys form members && members_fit form members
+dict_fits (dict.OneOf form) members = (length members == 1) && members_fit form members
+
+-- the values that are asked about, the new ones among them, all have their shapes exactly where
+-- those before had and this holds; false says that it does not hold
+abbrev pub Asks : Bool → Bool → Bool → Bool → Type 0
+Asks answer new holds old = (answer && new) ≡ (holds && old)

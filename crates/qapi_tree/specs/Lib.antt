@@ -1,0 +1,10 @@
+pub mod Asking
+pub mod Faults
+pub mod Judging
+pub mod Keys
+pub mod Reading
+pub mod Shapes
+pub mod Spelling
+pub mod Stacks
+pub mod Steps
+pub mod Table
