@@ -17,19 +17,13 @@ use Rattle.qm_read.specs.Bytes.{Byte, byte_at, numbered, codes_of, first_not}
 use Rattle.qm_read.specs.Lexemes.{string_length, string_lexeme, span_lexeme, lexeme_of, placed, tokens_from}
 use Rattle.qm_read.specs.Strings.{takes_next, ends_string, raw_length, text_of}
 use Rattle.qm_read.specs.Tokens.{at, number_token, word_token, string_token, run_to, ended_string, string_at, string_to, piece, found, closing, tokens_in}
+use Rattle.qm_read.proofs.Numbered.{all-codes, later}
 
 -- bytes with their places, in part
 take-codes : (m k : ℕ) (xs : List ℕ) → codes_of (take m (numbered k xs)) ≡ take m xs
 take-codes zero k xs = refl
 take-codes (suc m) k [] = refl
 take-codes (suc m) k (x ∷ xs) = ap (λ (l : List ℕ). x ∷ l) (take-codes m (k + 1) xs)
-
-all-codes : (k : ℕ) (xs : List ℕ) → codes_of (numbered k xs) ≡ xs
-all-codes k [] = refl
-all-codes k (x ∷ xs) = ap (λ (l : List ℕ). x ∷ l) (all-codes (k + 1) xs)
-
-later : (k m : ℕ) → k + 1 + m ≡ k + suc m
-later k m = omega arith
 
 drop-numbered : (m k : ℕ) (xs : List ℕ) → drop m (numbered k xs) ≡ numbered (k + m) (drop m xs)
 drop-numbered zero k xs = ap (λ (p : ℕ). numbered p xs) (omega arith)

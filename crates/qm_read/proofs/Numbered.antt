@@ -18,7 +18,7 @@ pub front-codes : (place : ℕ) (front rest : List ℕ) → codes_of (take (leng
 front-codes place [] rest = refl
 front-codes place (x ∷ front) rest = ap (λ (l : List ℕ). x ∷ l) (front-codes (place + 1) front rest)
 
-later : (place count : ℕ) → place + 1 + count ≡ place + suc count
+pub later : (place count : ℕ) → place + 1 + count ≡ place + suc count
 later place count = omega arith
 
 pub back : (place : ℕ) (front rest : List ℕ) → drop (length front) (numbered place (front ++ rest)) ≡ numbered (place + length front) rest
