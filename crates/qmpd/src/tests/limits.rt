@@ -39,23 +39,83 @@ const SCRIPTS: &[(&str, u8, &str)] = &[
     // Lines that order nothing, and lines that are none.
     ("# a comment\n\nopen\n#\n\n", 0, "1 open 1\nend 1\n"),
     ("open\ntext 1 \n", 0, "1 open 1\nend 1\n"),
-    ("open\ntext 1\n", 5, "1 open 1\nerror: script line 2: bad-line\n"),
-    ("open\nfeed 1 \n", 5, "1 open 1\nerror: script line 2: bad-line\n"),
-    ("open\nfeed 1 7\n", 5, "1 open 1\nerror: script line 2: bad-line\n"),
-    ("open\nfeed 1 7B\n", 5, "1 open 1\nerror: script line 2: bad-line\n"),
+    (
+        "open\ntext 1\n",
+        5,
+        "1 open 1\nerror: script line 2: bad-line\n",
+    ),
+    (
+        "open\nfeed 1 \n",
+        5,
+        "1 open 1\nerror: script line 2: bad-line\n",
+    ),
+    (
+        "open\nfeed 1 7\n",
+        5,
+        "1 open 1\nerror: script line 2: bad-line\n",
+    ),
+    (
+        "open\nfeed 1 7B\n",
+        5,
+        "1 open 1\nerror: script line 2: bad-line\n",
+    ),
     ("feed 1 7b\n", 5, "error: script line 1: no-session\n"),
-    ("open\nopen\n", 5, "1 open 1\nerror: script line 2: bad-line\n"),
+    (
+        "open\nopen\n",
+        5,
+        "1 open 1\nerror: script line 2: bad-line\n",
+    ),
     // The causes of a drop.
-    ("open\ndrop 1 read-fault\n", 0, "1 open 1\n2 drop 1 read-fault\nend 2\n"),
-    ("open\ndrop 1 write-fault\n", 0, "1 open 1\n2 drop 1 write-fault\nend 2\n"),
-    ("open\ndrop 1 limit\n", 0, "1 open 1\n2 drop 1 limit\nend 2\n"),
-    ("open\ndrop 1 memory\n", 0, "1 open 1\n2 drop 1 memory\nend 2\n"),
-    ("open\ndrop 1 halted\n", 0, "1 open 1\n2 drop 1 halted\nend 2\n"),
-    ("open\ndrop 1 ended\n", 5, "1 open 1\nerror: script line 2: not-drained\n"),
-    ("open\neof 1\ndrop 1 ended\n", 5, "1 open 1\n2 eof 1\nerror: script line 3: not-drained\n"),
-    ("open\ndrop 1 overrun\n", 5, "1 open 1\nerror: script line 2: wrong-cause\n"),
-    ("open\ndrop 1 stopped\n", 5, "1 open 1\nerror: script line 2: wrong-cause\n"),
-    ("open\ndrop 1 quit\n", 5, "1 open 1\nerror: script line 2: bad-line\n"),
+    (
+        "open\ndrop 1 read-fault\n",
+        0,
+        "1 open 1\n2 drop 1 read-fault\nend 2\n",
+    ),
+    (
+        "open\ndrop 1 write-fault\n",
+        0,
+        "1 open 1\n2 drop 1 write-fault\nend 2\n",
+    ),
+    (
+        "open\ndrop 1 limit\n",
+        0,
+        "1 open 1\n2 drop 1 limit\nend 2\n",
+    ),
+    (
+        "open\ndrop 1 memory\n",
+        0,
+        "1 open 1\n2 drop 1 memory\nend 2\n",
+    ),
+    (
+        "open\ndrop 1 halted\n",
+        0,
+        "1 open 1\n2 drop 1 halted\nend 2\n",
+    ),
+    (
+        "open\ndrop 1 ended\n",
+        5,
+        "1 open 1\nerror: script line 2: not-drained\n",
+    ),
+    (
+        "open\neof 1\ndrop 1 ended\n",
+        5,
+        "1 open 1\n2 eof 1\nerror: script line 3: not-drained\n",
+    ),
+    (
+        "open\ndrop 1 overrun\n",
+        5,
+        "1 open 1\nerror: script line 2: wrong-cause\n",
+    ),
+    (
+        "open\ndrop 1 stopped\n",
+        5,
+        "1 open 1\nerror: script line 2: wrong-cause\n",
+    ),
+    (
+        "open\ndrop 1 quit\n",
+        5,
+        "1 open 1\nerror: script line 2: bad-line\n",
+    ),
     (
         "open\ndrop 1 limit\ntext 1 {}\n",
         5,
@@ -166,10 +226,7 @@ fn expect(
         words.push(String::from_str(alloc, word)?)?;
     }
     let mut files = FileList::new(alloc);
-    files.push(LibraryFile::new(
-        Text::of(alloc, b"a.script")?,
-        Text::of(alloc, script)?,
-    ))?;
+    files.push(LibraryFile::new(Text::of(alloc, b"a.script")?, Text::of(alloc, script)?))?;
     let mut library = MemoryLibrary::new(alloc, files, CallList::new(alloc));
     let mut sink = MemorySink::new(alloc, CallList::new(alloc));
     let ended = run_offline(alloc, words.as_slice(), &mut library, &mut sink);
@@ -208,8 +265,9 @@ fn each_verdict_has_its_reply(rt: HostRuntime) -> Result<(), Fail> {
     let alloc = rt.alloc();
     for (line, printed, reply) in REQUESTS {
         let script = format!(in alloc; "open\n{NEGOTIATION}{line}\n{STEPS}")?;
-        let want =
-            format!(in alloc; "{NEGOTIATED}5 admit 1 2 in {printed}\n6 start 1 2\n7 done 1 2 @0 {reply}\nend 7\n")?;
+        let want = format!(in alloc;
+            "{NEGOTIATED}5 admit 1 2 in {printed}\n6 start 1 2\n7 done 1 2 @0 {reply}\nend 7\n"
+        )?;
         let words = ["replay", "a.script"];
         expect(&rt, &words, script.as_bytes(), 0, want.as_bytes())?;
     }
@@ -345,8 +403,11 @@ fn limits_of_a_message(rt: HostRuntime) -> Result<(), Fail> {
         ],
     )?;
     let answered = format!(in alloc; "\"}}\n6 start 1 2\n7 done 1 2 @0 {VERSION}, \"id\": \"")?;
-    let then = format!(in alloc; "\"}}\n8 admit 1 3 in bad too-long\n9 start 1 3\n10 done 1 3 @0 {{\"error\": {{\"class\": \"GenericError\", \"desc\": \"Invalid JSON: message is longer than 1048576 bytes\"}}}}\n11 admit 1 4 in {{\"execute\": \"query-version\"}}\n12 start 1 4\n13 done 1 4 @0 {VERSION}}}\n14 admit 1 5 in ")?;
-    let end = "\n15 start 1 5\n16 done 1 5 @0 {\"error\": {\"class\": \"GenericError\", \"desc\": \"QMP input must be a JSON object\"}}\n17 admit 1 6 in bad too-deep\n18 start 1 6\n19 done 1 6 @0 {\"error\": {\"class\": \"GenericError\", \"desc\": \"Invalid JSON: nesting is deeper than 128\"}}\nend 19\n";
+    let then = format!(in alloc;
+        "\"}}\n8 admit 1 3 in bad too-long\n9 start 1 3\n10 done 1 3 @0 {{\"error\": {{\"class\": \"GenericError\", \"desc\": \"Invalid JSON: message is longer than 1048576 bytes\"}}}}\n11 admit 1 4 in {{\"execute\": \"query-version\"}}\n12 start 1 4\n13 done 1 4 @0 {VERSION}}}\n14 admit 1 5 in "
+    )?;
+    let end =
+        "\n15 start 1 5\n16 done 1 5 @0 {\"error\": {\"class\": \"GenericError\", \"desc\": \"QMP input must be a JSON object\"}}\n17 admit 1 6 in bad too-deep\n18 start 1 6\n19 done 1 6 @0 {\"error\": {\"class\": \"GenericError\", \"desc\": \"Invalid JSON: nesting is deeper than 128\"}}\nend 19\n";
     let want = joined(
         alloc,
         &[
@@ -369,8 +430,15 @@ fn limits_of_a_message(rt: HostRuntime) -> Result<(), Fail> {
 fn long_entries(alloc: Global, number: u64, letters: &[u8]) -> Result<Text, Fail>
     requires { number < 100 }
 {
-    let admit = format!(in alloc; "{} admit 1 {number} in {{\"execute\": \"query-version\", \"id\": \"", 3 * number - 1)?;
-    let start = format!(in alloc; "\"}}\n{} start 1 {number}\n{} done 1 {number} @0 {VERSION}, \"id\": \"", 3 * number, 3 * number + 1)?;
+    let admit = format!(in alloc;
+        "{} admit 1 {number} in {{\"execute\": \"query-version\", \"id\": \"",
+        3 * number - 1
+    )?;
+    let start = format!(in alloc;
+        "\"}}\n{} start 1 {number}\n{} done 1 {number} @0 {VERSION}, \"id\": \"",
+        3 * number,
+        3 * number + 1
+    )?;
     Ok(joined(
         alloc,
         &[
