@@ -1,5 +1,5 @@
 -- Two pieces put one after the other.
-use Rattle.std.proofs.Common.{◌≡◌, ℕ, List, ◌++◌, Option, Some, None, Result, Ok, Err, refl, ap, ◌∙◌, append_assoc}
+use Rattle.std.proofs.Common.{◌≡◌, ℕ, List, ◌++◌, Option, Result, Ok, Err, ap, ◌∙◌}
 use Rattle.qm_base.specs.Faults.{told_more, Puts}
 use Rattle.qm_base.proofs.Prefixes.{append_prefix}
 use Rattle.qm_base.proofs.Telling.{told_more-twice}
