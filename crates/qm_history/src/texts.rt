@@ -1,48 +1,13 @@
 ghost use Rattle.std.specs.Prelude.{◌≡◌, ◌++◌, codes, flat_map, length, OnOk};
 ghost use Rattle.std.specs.Fmt.{decimal};
 ghost use Rattle.qm_json.specs.Printing.{printed};
-ghost use Rattle.qm_core.specs.Texts.{bad_word_of, cause_word_of, entry_text_of, event_text_of, frame_word_of, input_text_of, json_word_of, lane_word_of, request_text_of, taken_text_of};
+ghost use Rattle.qm_core.specs.Texts.{bad_word_of, cause_word_of, entry_text_of, event_text_of, input_text_of, json_word_of, lane_word_of, request_text_of, taken_text_of};
 
 use itoa::Buffer;
 use qm_base::{NoMemory, Shared, Text};
 use qm_caps::Lane;
-use qm_core::{BadInput, Cause, Entry, FrameWord, Input, JsonWord};
+use qm_core::{BadInput, Cause, Entry, Input, JsonWord, lane_word};
 use qm_json::Json;
-
-fn frame_word(word: FrameWord) -> &'static [u8]
-    ensures { result.now ≡ frame_word_of word }
-{
-    match word {
-        FrameWord::LexError => b"lex-error",
-        FrameWord::Unbalanced => b"unbalanced",
-        FrameWord::TooDeep => b"too-deep",
-        FrameWord::TooLong => b"too-long",
-    }
-}
-
-fn lane_word(lane: Lane) -> &'static [u8]
-    ensures { result.now ≡ lane_word_of lane }
-{
-    match lane {
-        Lane::InBand => b"in",
-        Lane::Oob => b"oob",
-    }
-}
-
-fn cause_word(cause: Cause) -> &'static [u8]
-    ensures { result.now ≡ cause_word_of cause }
-{
-    match cause {
-        Cause::Ended => b"ended",
-        Cause::ReadFault => b"read-fault",
-        Cause::WriteFault => b"write-fault",
-        Cause::Overrun => b"overrun",
-        Cause::Stopped => b"stopped",
-        Cause::Limit => b"limit",
-        Cause::Memory => b"memory",
-        Cause::Halted => b"halted",
-    }
-}
 
 fn put_number(out: &mut Text, number: u64) -> Result<(), NoMemory>
     ensures { OnOk result (out.new ≡ out.old ++ decimal number) }
@@ -73,7 +38,7 @@ fn put_bad_word(out: &mut Text, bad: BadInput) -> Result<(), NoMemory>
     ensures { OnOk result (out.new ≡ out.old ++ bad_word_of bad) }
 {
     match bad {
-        BadInput::Frame(word) => out.extend(frame_word(word)),
+        BadInput::Frame(word) => out.extend(word.word()),
         BadInput::Json(word) => put_json_word(out, word),
     }
 }
@@ -201,7 +166,7 @@ fn put_drop(out: &mut Text, session: u32, cause: Cause) -> Result<(), NoMemory>
     out.extend(b" drop ")?;
     put_number(out, u64::from(session))?;
     out.push(b' ')?;
-    out.extend(cause_word(cause))?;
+    out.extend(cause.word())?;
     out.push(b'\n')
 }
 

@@ -1,6 +1,5 @@
 -- A line of a script, and those that follow it.
-use Rattle.std.proofs.Common.{◌≡◌, ℕ, ◌+◌, ◌-◌, ◌^◌, min, List, ◌∷◌, Some, None, Result, Ok, Err, refl, ap, sym, ◌∙◌, subst, arith}
-use Rattle.std.proofs.lemmas.Bool.Decides.{nat_tests}
+use Rattle.std.proofs.Common.{◌≡◌, ℕ, ◌+◌, ◌-◌, ◌^◌, min, List, ◌∷◌, Some, None, Result, Ok, Err, refl, ap, sym, ◌∙◌, subst}
 use Rattle.qm_core.specs.declared.monitor.Limits.{Limits}
 use Rattle.qm_script.specs.Kept.{Turns}
 use Rattle.qm_script.specs.Lines.{lines_of}

@@ -1,13 +1,13 @@
 -- The answer of a run from that of its part.
-use Rattle.std.proofs.Common.{◌≡◌, ◌≢◌, ℕ, List, [], Option, Some, None, refl, ap, sym, ◌∙◌, append-nil, inl, inr}
+use Rattle.std.proofs.Common.{◌≡◌, ◌≢◌, ℕ, List, [], Option, Some, None, refl, ap, sym, ◌∙◌, subst, append-nil, inl, inr}
 use Rattle.std.specs.Option.{option_and_then}
 use Rattle.qm_base.specs.Faults.{Rose, told_more, HoldsPart}
 use Rattle.qm_base.proofs.Prefixes.{empty_prefix}
-use Rattle.qapi_load.specs.Files.{NamedText}
+use Rattle.qapi_load.specs.Files.{NamedText, text_of}
 use Rattle.qm_script.specs.declared.endings.PlayEnd.{PlayEnd}
 use Rattle.qm_script.specs.declared.endings.PlayEnd.TheVariants as end
 use Rattle.qmpd.specs.Answers.{Ran, Ends, Answers}
-use Rattle.qmpd.specs.Output.{run_with, answer_of, end_status_of, cannot_read}
+use Rattle.qmpd.specs.Output.{run_with, answer_of, end_status_of, cannot_read, missing}
 use Rattle.qmpd.specs.Words.{Replay}
 
 told_more-nothing : (told : Option (List ℕ)) → told ≡ told_more told []
@@ -73,6 +73,14 @@ done ran status answer told kept ends =
       sink_kept = λ other. ends.kept other;
       sink_part = λ seven. inl (ends.part_at_fault seven);
     }
+
+-- there is no such script
+pub absent : (ran : Ran) (status : ℕ) (replay : Replay) → ran.replay ≡ Some replay →
+    ((files : List NamedText) → ran.files ≡ Some files → None ≡ text_of replay.script files) → ran.library_now ≡ ran.library_before →
+    Ends (missing replay.script).bytes 5 ran.sink status → Answers ran status
+absent ran status replay named told kept ends =
+    done ran status None (λ files e. told files e ∙ sym (ap (λ (r : Option Replay). answer_of r files) named)) kept
+    (subst (λ (r : Option Replay). Ends (run_with r None).bytes (run_with r None).status ran.sink status) (sym named) ends)
 
 -- what files that are told answer, or nothing
 told_answer : Option (List NamedText) → Option Replay → Option (List ℕ)

@@ -34,11 +34,23 @@ abbrev pub first_replay : Option Replay → Option Replay → Option Replay
 first_replay None other = other
 first_replay (Some replay) other = Some replay
 
--- the words after `replay`: a script, with at most one `--journal N` on either side
+-- a script alone
+abbrev pub script_alone : List (List ℕ) → Option Replay
+script_alone [] = None
+script_alone (name ∷ []) = replay_named name (Some MOST_ENTRIES)
+script_alone (a ∷ b ∷ more) = None
+
+-- a script, with `--journal N` on either side
+abbrev pub script_and_journal : List (List ℕ) → Option Replay
+script_and_journal [] = None
+script_and_journal (a ∷ []) = None
+script_and_journal (a ∷ b ∷ []) = None
+script_and_journal (a ∷ b ∷ c ∷ []) = first_replay (replay_named c (journal_option a b)) (replay_named a (journal_option b c))
+script_and_journal (a ∷ b ∷ c ∷ d ∷ more) = None
+
+-- the words after `replay`
 abbrev pub replay_words : List (List ℕ) → Option Replay
-replay_words (name ∷ []) = replay_named name (Some MOST_ENTRIES)
-replay_words (a ∷ b ∷ c ∷ []) = first_replay (replay_named c (journal_option a b)) (replay_named a (journal_option b c))
-replay_words _ = None
+replay_words words = first_replay (script_alone words) (script_and_journal words)
 
 abbrev pub after_verb : List ℕ → Option Replay → Option Replay
 after_verb verb replay = cond (bytes_eq verb (codes "replay")) replay None

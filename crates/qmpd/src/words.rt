@@ -1,6 +1,6 @@
 ghost use Rattle.std.specs.Prelude.{◌≡◌, ◌≤◌, map, string_bytes, IfSome, option_map};
 ghost use Rattle.qm_core.specs.declared.TheConstants.{MOST_ENTRIES};
-ghost use Rattle.qmpd.specs.Words.{entries_of as entries_of_word, is_positional as is_positional_of, journal_option as journal_option_of, replay_named as replay_named_of, replay_of as replay_of_words, replay_words as replay_words_of};
+ghost use Rattle.qmpd.specs.Words.{entries_of as entries_of_word, is_positional as is_positional_of, journal_option as journal_option_of, replay_named as replay_named_of, replay_of as replay_of_words, replay_words as replay_words_of, script_alone as script_alone_of, script_and_journal as script_and_journal_of};
 
 use qm_base::number;
 use qm_core::MOST_ENTRIES;
@@ -59,13 +59,27 @@ fn replay_named<'a>(name: &'a [u8], entries: Option<u64>) -> Option<Asked<'a>>
     }
 }
 
-fn replay_words(words: &[String]) -> Option<Asked<'_>>
+fn script_alone(words: &[String]) -> Option<Asked<'_>>
     ensures value { option_map (λ a. record { script = a.script.now; entries = a.entries }) result
-        ≡ replay_words_of (map string_bytes words.now) }
+        ≡ script_alone_of (map string_bytes words.now) }
     ensures within { IfSome result (λ a. (1 ≤ a.entries) × (a.entries ≤ MOST_ENTRIES)) }
 {
     match words {
         [name] => replay_named(name.as_bytes(), Some(MOST_ENTRIES)),
+        _ => None,
+    }
+}
+
+#[tactic(auto, using(crate::proofs::WordLemmas::not_three))]
+fn script_and_journal(words: &[String]) -> Option<Asked<'_>>
+    ensures value { option_map (λ a. record { script = a.script.now; entries = a.entries }) result
+        ≡ script_and_journal_of (map string_bytes words.now) }
+    ensures within { IfSome result (λ a. (1 ≤ a.entries) × (a.entries ≤ MOST_ENTRIES)) }
+{
+    if words.len() != 3 {
+        return None;
+    }
+    match words {
         [a, b, c] => {
             let before = journal_option(a.as_bytes(), b.as_bytes());
             match replay_named(c.as_bytes(), before) {
@@ -77,6 +91,17 @@ fn replay_words(words: &[String]) -> Option<Asked<'_>>
             }
         }
         _ => None,
+    }
+}
+
+fn replay_words(words: &[String]) -> Option<Asked<'_>>
+    ensures value { option_map (λ a. record { script = a.script.now; entries = a.entries }) result
+        ≡ replay_words_of (map string_bytes words.now) }
+    ensures within { IfSome result (λ a. (1 ≤ a.entries) × (a.entries ≤ MOST_ENTRIES)) }
+{
+    match script_alone(words) {
+        Some(asked) => Some(asked),
+        None => script_and_journal(words),
     }
 }
 

@@ -1,10 +1,11 @@
 //! One session from its opening to its end.
 
-use crate::entries::Cause;
+use crate::entries::{Cause, StepFault};
 use crate::inputs::{BadInput, Input, JsonWord};
 use crate::lines::LineList;
 use crate::monitor::{Limits, Monitor};
 use crate::offers::Offer;
+use crate::{MOST_ENTRIES, MOST_TEXT};
 use std::process::Abort;
 use std::test::Fail;
 
@@ -47,5 +48,33 @@ fn a_session_from_opening_to_end(rt: HostRuntime) -> Result<(), Fail> {
     monitor.end(session)?;
     monitor.drop_session(session, Cause::Ended)?;
     assert_eq!(rt; monitor.journal().len(), 7);
+    Ok(())
+}
+
+// 192,840 of these replies and the greeting have 16,777,194 bytes with their CR LF, and one more
+// has 87 bytes.
+#[test]
+fn a_session_that_overruns(rt: HostRuntime) -> Result<(), Fail> {
+    let limits = Limits {
+        entries: MOST_ENTRIES,
+        text: MOST_TEXT,
+    };
+    let mut monitor = Monitor::new(rt.alloc(), limits)?;
+    let session = monitor.open(rt.alloc())?;
+    for _ in 0..192_840 {
+        answered(&rt, &mut monitor, session)?;
+    }
+    assert!(rt; !monitor.is_overrun(session));
+    answered(&rt, &mut monitor, session)?;
+    assert!(rt; monitor.is_overrun(session));
+    let lines = monitor.take(session)?;
+    assert_eq!(rt; lines.len(), 192_841);
+    answered(&rt, &mut monitor, session)?;
+    let untaken = monitor.take(session);
+    assert!(rt; matches!(untaken, Err(StepFault::Nothing)));
+    monitor.end(session)?;
+    let drained = monitor.drop_session(session, Cause::Ended);
+    assert!(rt; matches!(drained, Err(StepFault::NotDrained)));
+    monitor.drop_session(session, Cause::Overrun)?;
     Ok(())
 }

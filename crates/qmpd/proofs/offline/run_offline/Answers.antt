@@ -1,7 +1,13 @@
-use Rattle.std.proofs.Common.{rules, ◌≡◌, refl, Some, map, string_bytes}
+use Rattle.std.proofs.Common.{rules, ◌≡◌, refl, sym, ◌∙◌, Some, map, string_bytes}
 use Rattle.qmpd.specs.Words.{Replay, replay_of}
-use Rattle.qmpd.proofs.Runs.{unread, wanted_memory}
+use Rattle.qmpd.proofs.Runs.{absent, unread, wanted_memory}
 use Rattle.qmpd.proofs.offline.run_offline.Goals as goal
+
+pub returns-in-Ok-None : goal.returns-in-Ok-None
+returns-in-Ok-None g c =
+    let asked : Replay = record { script = c.in-Some.asked.script.now; entries = c.in-Some.asked.entries } in
+    let named : replay_of (map string_bytes c.args.words.now) ≡ Some asked = search rules in
+    absent _ _ asked named (λ files e. sym c.in-Ok-None.field-0-is ∙ c.in-Ok-None.ensures.value files e) (search rules) c.refuse_missing.ensures
 
 pub returns-in-Err-Failed : goal.returns-in-Err-Failed
 returns-in-Err-Failed g c =
