@@ -102,12 +102,12 @@ last_start_of s (Start t k ∷ past) = cond (t == s) (length past + 1) (last_sta
 last_start_of s (e ∷ past) = last_start_of s past
 
 -- the open sessions that wait
-abbrev pub candidates_of : List Entry → List ℕ
-candidates_of past = filter (λ s. is_open s past && not (length (waiting_of s past) == 0)) (sessions_of past)
+abbrev pub ready_sessions_of : List Entry → List ℕ
+ready_sessions_of past = filter (λ s. is_open s past && not (length (waiting_of s past) == 0)) (sessions_of past)
 
 -- of these, the one whose last start stands earliest; ties go to the lower number
 abbrev pub turn_of : List Entry → Option ℕ
-turn_of past = find (λ s. list_all (λ t. nat_le (last_start_of s past) (last_start_of t past)) (candidates_of past)) (candidates_of past)
+turn_of past = find (λ s. list_all (λ t. nat_le (last_start_of s past) (last_start_of t past)) (ready_sessions_of past)) (ready_sessions_of past)
 
 -- the request to be started: the least that waits of that session
 abbrev pub starting_of : List Entry → Option Request

@@ -147,25 +147,29 @@ fn push_entries(
     text.push_str("\"}\n")
 }
 
-/// Sixteen replies of 1,048,638 bytes and the lines before them pass 16,777,216 bytes.
+/// How a session may end after it overran: words of the script, the status and what is put.
+const ENDINGS: &[(&str, u8, &str)] = &[
+    ("drop 1 overrun\n", 0, "54 drop 1 overrun\nend 54\n"),
+    ("drop 1 ended\n", 5, "error: script line 71: not-drained\n"),
+    (
+        "eof 1\ndrop 1 ended\n",
+        5,
+        "54 eof 1\nerror: script line 72: not-drained\n",
+    ),
+];
+
+/// Each reply has 1,048,630 bytes with its CR LF, and sixteen of them with the lines before pass
+/// 16,777,216 bytes.
 #[test]
 fn untaken_lines_overrun(rt: HostRuntime) -> Result<(), Fail> {
     let alloc = rt.alloc();
     let letters = repeated(alloc, "a", LETTERS)?;
     let request = joined(alloc, &[ASKED, letters.as_str(), "\"}\n", STEPS])?;
     let requests = repeated(alloc, request.as_str(), 16)?;
-    let script = joined(
-        alloc,
-        &[
-            scripts::START,
-            requests.as_str(),
-            "take 1\ndrop 1 overrun\n",
-        ],
-    )?;
-    let mut want = joined(alloc, &[scripts::STARTED])?;
+    let mut entries = joined(alloc, &[scripts::STARTED])?;
     let mut entry = 5u8;
     for request in 2..18 {
-        push_entries(&mut want, entry, request, letters.as_str())?;
+        push_entries(&mut entries, entry, request, letters.as_str())?;
         entry = entry.saturating_add(3);
     }
     let line = joined(
@@ -173,10 +177,29 @@ fn untaken_lines_overrun(rt: HostRuntime) -> Result<(), Fail> {
         &["> ", VERSION, ", \"id\": \"", letters.as_str(), "\"}\n"],
     )?;
     let lines = repeated(alloc, line.as_str(), 15)?;
-    want.push_str("53 take 1 17\n")?;
-    want.push_str(scripts::GREETING)?;
-    want.push_str("> {\"return\": {}}\n")?;
-    want.push_str(lines.as_str())?;
-    want.push_str("54 drop 1 overrun\nend 54\n")?;
-    expect(&rt, scripts::REPLAY, script.as_str(), 0, want.as_str())
+    for (words, status, last) in ENDINGS {
+        let script = joined(
+            alloc,
+            &[scripts::START, requests.as_str(), "take 1\n", words],
+        )?;
+        let want = joined(
+            alloc,
+            &[
+                entries.as_str(),
+                "53 take 1 17\n",
+                scripts::GREETING,
+                "> {\"return\": {}}\n",
+                lines.as_str(),
+                last,
+            ],
+        )?;
+        expect(
+            &rt,
+            scripts::REPLAY,
+            script.as_str(),
+            *status,
+            want.as_str(),
+        )?;
+    }
+    Ok(())
 }

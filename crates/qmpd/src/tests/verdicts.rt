@@ -6,6 +6,21 @@ use std::test::Fail;
 /// Requests after the negotiation, how they are printed, and their replies.
 const REQUESTS: &[(&str, &str, &str)] = &[
     (
+        "feed 1 ff",
+        "bad lex-error",
+        "{\"error\": {\"class\": \"GenericError\", \"desc\": \"Invalid JSON: lexical error\"}}",
+    ),
+    (
+        "text 1 [[[[[[[[[[[[[[[[[[[[[[[[[[[[[[[[[[[[[[[[[[[[[[[[[[[[[[[[[[[[[[[[[[[[[[[[[[[[[[[[[[[[[[[[[[[[[[[[[[[[[[[[[[[[[[[[[[[[[[[[[[[[[[[[[",
+        "bad too-deep",
+        "{\"error\": {\"class\": \"GenericError\", \"desc\": \"Invalid JSON: nesting is deeper than 128\"}}",
+    ),
+    (
+        "text 1 {\"execute\": }",
+        "bad expected 12",
+        "{\"error\": {\"class\": \"GenericError\", \"desc\": \"Invalid JSON: syntax error at byte 12\"}}",
+    ),
+    (
         "feed 1 7d",
         "bad unbalanced",
         "{\"error\": {\"class\": \"GenericError\", \"desc\": \"Invalid JSON: unbalanced bracket\"}}",
