@@ -5,4 +5,5 @@ mod Opens
 mod PieceLemmas
 pub mod Positions
 mod Rows
+mod Unfolded
 mod Texts

@@ -1,6 +1,5 @@
 //! Streams of bytes, the frames that they have, and where reading goes on after a fault.
 
-use crate::searching::searched;
 use crate::{FrameFault, Framer, MAX_DEPTH, MAX_LENGTH, Step};
 use std::process::Abort;
 use std::test::Fail;
@@ -63,36 +62,6 @@ fn streams_have_their_frames(rt: HostRuntime) -> Result<(), Fail> {
     ];
     for (bytes, lines) in cases {
         assert_eq!(rt; frames(&rt, bytes)?.as_slice(), lines.as_bytes(), "{lines}");
-        assert_eq!(rt;
-            searched(&rt, bytes)?.as_slice(),
-            lines.as_bytes(),
-            "{lines}"
-        );
-    }
-    Ok(())
-}
-
-#[test]
-fn the_search_finds_the_same_frames(rt: HostRuntime) -> Result<(), Fail> {
-    let streams: [&[u8]; 12] = [
-        b"[1,-2.5e+3,true,null]\n{'a':[{}],\"b\":\"\\u0041\"}[]",
-        b"[1,+2]\n[2]",
-        b"[1+,2E-]{}",
-        b"[nullnull1true]\x00[]",
-        b"[1a2b]{}",
-        b"[\"\\\\\"][\"\\\"\"]",
-        b"['\\'][']",
-        b"{[}][{]}",
-        b"[\t\r\n ]\t[\x0B][]",
-        b"nul{}\n{}x}\n]",
-        b"[\"\xC3\xA9\x7F\"][\xC3]\n{}",
-        b"[1:2,,3}\xFE\xFF[",
-    ];
-    for bytes in streams {
-        assert_eq!(rt;
-            frames(&rt, bytes)?.as_slice(),
-            searched(&rt, bytes)?.as_slice()
-        );
     }
     Ok(())
 }
