@@ -1,14 +1,15 @@
 -- Definitions unfolded, for the slow program of the tests.
-use Rattle.std.proofs.Common.{◌≡◌, ℕ, List, [], ◌∷◌, ◌-◌, ◌+◌, ◌<◌, ◌≤◌, zero, suc, arith, slice_index_or, ◌==◌, nat_lt, nat_le, cond, ◌&&◌, ◌++◌, Bool, true, false, length, take, drop, refl, ap, sym, subst, ◌∙◌, count_by, Result, Ok, Err}
-use Rattle.qm_frame.specs.Ended.{ended}
-use Rattle.qm_frame.specs.Framing.{first_closed, closed_by, after_recovery, front_of, Between}
+use Rattle.std.proofs.Common.{◌≡◌, ℕ, List, [], ◌∷◌, ◌-◌, ◌+◌, ◌<◌, ◌≤◌, zero, suc, arith, slice_index_or, ◌==◌, nat_lt, nat_le, cond, ◌&&◌, ◌++◌, Bool, true, false, length, take, drop, refl, ap, sym, subst, ◌∙◌, count_by, Result, Ok, Err, Option, Some, None, append-nil}
+use Rattle.qm_frame.specs.Ended.{ended, answers_and_count}
+use Rattle.qm_frame.specs.Framing.{first_closed, closed_by, after_recovery, front_of, Between, frames_of}
 use Rattle.std.proofs.lemmas.List.{take_more, drop_more}
 use Rattle.std.proofs.lemmas.List.{take_rest, length-take-le}
 use Rattle.std.proofs.lemmas.List.Sums.{sum_by-append}
 use Rattle.qm_frame.specs.Bytes.{is_space, is_opener, is_closer, is_single}
+use Rattle.qm_frame.specs.declared.step.FrameFault.{FrameFault}
 use Rattle.qm_frame.specs.declared.step.FrameFault.TheVariants.{LexError, TooDeep, TooLong}
 use Rattle.qm_frame.specs.declared.step.TheConstants.{MAX_LENGTH, MAX_DEPTH}
-use Rattle.qm_base.specs.Search.{Front, Piece, Final, after_front, found_after}
+use Rattle.qm_base.specs.Search.{Front, Piece, Final, Found, after_front, found_after}
 use Rattle.qm_frame.specs.declared.piece.LastPiece.{LastPiece}
 use Rattle.qm_frame.specs.declared.piece.LastPiece.TheVariants.{Whole}
 use Rattle.qm_frame.specs.Pieces.{piece, scans, level_of}
@@ -62,3 +63,24 @@ closed_is bytes i h =
     rw (length-take-le i bytes (omega (arith, h)))
     (ap (λ (l : List ℕ). cond (is_message l) (Piece (Ok l ∷ []) i) (after_recovery (fault_of l) i (slice_index_or bytes i 0) (drop (i + 1) bytes))) (sym (take_more bytes i 0 h)))
 
+
+-- what the search for frames finds where the front of the bytes adds these frames
+abbrev pub answers_from : {A : Type 0} → (ℕ → List A) → Option ℕ → List A
+answers_from go (Some count) = go count
+answers_from go None = []
+
+front-answers : {A R : Type 0} (f : Front A R) (go : ℕ → Found A R) → (after_front f go).answers ≡ (answers_and_count f).0 ++ answers_from (λ k. (go k).answers) (answers_and_count f).1
+front-answers (Piece fs k) go = refl
+front-answers (Final fs rest) go = sym (append-nil fs)
+
+pub frames_at : (left : ℕ) (bytes : List ℕ) (frames : List (Result (List ℕ) FrameFault)) (taken : Option ℕ) → left < 1 → 1 ≤ length bytes → (frames, taken) ≡ answers_and_count (front_of (slice_index_or bytes 0 0) (drop 1 bytes)) →
+    (found_after front_of Between left bytes).answers ≡ frames ++ answers_from (λ k. (found_after front_of Between k (drop 1 bytes)).answers) taken
+frames_at zero (x ∷ bytes) frames taken z h e =
+    front-answers (front_of x bytes) (λ k. found_after front_of Between k bytes)
+    ∙ ap (λ (p : List (Result (List ℕ) FrameFault) × Option ℕ). p.0 ++ answers_from (λ k. (found_after front_of Between k bytes).answers) p.1) (sym e)
+frames_at zero [] frames taken z h e = elim h [ ]
+frames_at (suc left) bytes frames taken z h e = absurd (omega (arith, z))
+
+pub frames_are : (bytes : List ℕ) → frames_of bytes ≡ (found_after front_of Between 0 bytes).answers
+unfolding frames_of
+frames_are bytes = refl

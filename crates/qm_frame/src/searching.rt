@@ -1,12 +1,12 @@
 //! The definition of framing as a plain program: a function for each definition of the specs
 //! `Pieces`, `Messages` and `Framing`, which looks at each prefix as a whole.
 
-ghost use Rattle.std.specs.Prelude.{◌≡◌, ◌≤◌, ◌<◌, ◌+◌, ◌^◌, [], ◌∷◌, not, cond, length, position, count_by, take, drop, slice_index_or, IfOk, Some, Err};
+ghost use Rattle.std.specs.Prelude.{◌≡◌, ◌≤◌, ◌<◌, ◌+◌, ◌^◌, [], ◌∷◌, not, cond, length, position, count_by, take, drop, slice_index_or, IfOk, OnOk, Some, Err, ◌++◌};
 ghost use Rattle.qm_base.specs.Search.{found_after};
 ghost use Rattle.qm_frame.specs.Bytes.{is_opener as opener, is_closer as closer, is_single as single, in_number as number_has, is_letter as letter, is_reset as reset};
 ghost use Rattle.qm_frame.specs.Pieces.{run_to as run, quoted as in_quotes, piece as piece_of, level_of as level, scans as scanning};
 ghost use Rattle.qm_frame.specs.Messages.{begins_open as begins, is_level_open as level_open, each_prefix, is_open as openness, is_message as message, fault_of as fault};
-ghost use Rattle.qm_frame.specs.Framing.{after_recovery as recovery, closed_by as closing, first_closed as first_closing, front_of as front, Between};
+ghost use Rattle.qm_frame.specs.Framing.{after_recovery as recovery, closed_by as closing, first_closed as first_closing, front_of as front, Between, frames_of};
 ghost use Rattle.qm_frame.specs.Ended.{ended, framed, answers_and_count};
 
 use crate::bytes::{
@@ -14,6 +14,11 @@ use crate::bytes::{
 };
 use crate::piece::{LastPiece, is_broken};
 use crate::{FrameFault, MAX_DEPTH, MAX_LENGTH};
+use qm_base::{NoMemory, Text};
+use std::alloc::Global;
+
+/// A message, or a fault.
+pub type Frame = Result<Text, FrameFault>;
 
 fn number_end(rest: &[u8]) -> Option<usize>
     ensures { result ≡ position (λ y. not (number_has y)) rest.now }
@@ -212,6 +217,7 @@ fn fault_of(text: &[u8]) -> FrameFault
 
 /// The frame at the front of bytes, if there is one, and how many bytes are taken after the first;
 /// None where all are.
+#[derive(Clone, Copy)]
 struct Front {
     /// A message of so many bytes, or a fault.
     frame: Option<Result<usize, FrameFault>>,
@@ -303,4 +309,76 @@ fn front_of(bytes: &[u8]) -> Front
     } else {
         after_recovery(FrameFault::LexError, 0, bytes[0], &bytes[1..])
     }
+}
+
+/// The first so many bytes, or all where there are fewer.
+fn prefix(bytes: &[u8], count: usize) -> &[u8]
+    ensures { result.now ≡ take count bytes.now }
+{
+    if count < bytes.len() {
+        &bytes[..count]
+    } else {
+        bytes
+    }
+}
+
+fn put(frames: &mut Vec<Frame>, frame: Frame) -> Result<(), NoMemory>
+    ensures { OnOk result (frames.new.items ≡ frames.old.items ++ frame ∷ []) }
+{
+    match frames.push(frame) {
+        Ok(()) => Ok(()),
+        Err(_) => Err(NoMemory),
+    }
+}
+
+fn keep(
+    alloc: Global,
+    frames: &mut Vec<Frame>,
+    bytes: &[u8],
+    frame: Option<Result<usize, FrameFault>>,
+) -> Result<(), NoMemory>
+    ensures { OnOk result (frames.new.items ≡ frames.old.items ++ framed bytes.now frame) }
+{
+    match frame {
+        Some(Ok(count)) => {
+            let message = Text::of(alloc, prefix(bytes, count))?;
+            put(frames, Ok(message))
+        }
+        Some(Err(fault)) => put(frames, Err(fault)),
+        None => Ok(()),
+    }
+}
+
+#[tactic(auto, using(crate::proofs::Unfolded::frames_at))]
+fn search(
+    alloc: Global,
+    frames: &mut Vec<Frame>,
+    left: usize,
+    bytes: &[u8],
+) -> Result<(), NoMemory>
+    ensures { OnOk result (frames.new.items ≡
+        frames.old.items ++ (found_after front Between left bytes.now).answers) }
+{
+    if bytes.is_empty() {
+        return Ok(());
+    }
+    if left > 0 {
+        return search(alloc, frames, left - 1, &bytes[1..]);
+    }
+    let front = front_of(bytes);
+    keep(alloc, frames, bytes, front.frame)?;
+    match front.taken {
+        Some(count) => search(alloc, frames, count, &bytes[1..]),
+        None => Ok(()),
+    }
+}
+
+/// The frames of the bytes.
+#[tactic(auto, using(crate::proofs::Unfolded::frames_are))]
+pub fn searched(alloc: Global, bytes: &[u8]) -> Result<Vec<Frame>, NoMemory>
+    ensures { IfOk result (λ frames. frames.items ≡ frames_of bytes.now) }
+{
+    let mut frames = Vec::new(alloc);
+    search(alloc, &mut frames, 0, bytes)?;
+    Ok(frames)
 }
