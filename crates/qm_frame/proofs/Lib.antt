@@ -2,6 +2,7 @@ mod FramingLemmas
 pub mod Growth
 mod Levels
 mod Opens
+mod OneMore
 mod PieceLemmas
 pub mod Positions
 mod Rows
