@@ -1,11 +1,12 @@
 //! Streams of bytes, the frames that they have, and where reading goes on after a fault.
 
+use crate::slow_framer::SlowFramer;
 use crate::{FrameFault, Framer, MAX_DEPTH, MAX_LENGTH, Step};
 use std::process::Abort;
 use std::test::Fail;
 
 /// The name of a fault in a line.
-pub fn name_of(fault: FrameFault) -> &'static str {
+fn name_of(fault: FrameFault) -> &'static str {
     match fault {
         FrameFault::LexError => "lex error",
         FrameFault::Unbalanced => "unbalanced",
@@ -32,6 +33,18 @@ fn frames(rt: &impl AllocGlobal, bytes: &[u8]) -> Result<Vec<u8>, Fail> {
         }
     }
     Ok(lines)
+}
+
+/// Whether the slow framer has the same answer and the same message after each byte.
+fn slow_one_agrees(rt: &impl AllocGlobal, bytes: &[u8]) -> Result<bool, Fail> {
+    let mut framer = Framer::new(rt.alloc())?;
+    let mut slow = SlowFramer::new(rt.alloc());
+    let mut agrees = true;
+    for &byte in bytes {
+        let answer = slow.push(rt.alloc(), byte)?;
+        agrees = agrees && framer.push(byte) == answer && framer.frame() == slow.frame();
+    }
+    Ok(agrees)
 }
 
 #[test]
@@ -62,6 +75,29 @@ fn streams_have_their_frames(rt: HostRuntime) -> Result<(), Fail> {
     ];
     for (bytes, lines) in cases {
         assert_eq!(rt; frames(&rt, bytes)?.as_slice(), lines.as_bytes(), "{lines}");
+        assert!(rt; slow_one_agrees(&rt, bytes)?, "{lines}");
+    }
+    Ok(())
+}
+
+#[test]
+fn the_slow_framer_agrees(rt: HostRuntime) -> Result<(), Fail> {
+    let streams: [&[u8]; 12] = [
+        b"[1,-2.5e+3,true,null]\n{'a':[{}],\"b\":\"\\u0041\"}[]",
+        b"[1,+2]\n[2]",
+        b"[1+,2E-]{}",
+        b"[nullnull1true]\x00[]",
+        b"[1a2b]{}",
+        b"[\"\\\\\"][\"\\\"\"]",
+        b"['\\'][']",
+        b"{[}][{]}",
+        b"[\t\r\n ]\t[\x0B][]",
+        b"nul{}\n{}x}\n]",
+        b"[\"\xC3\xA9\x7F\"][\xC3]\n{}",
+        b"[1:2,,3}\xFE\xFF[",
+    ];
+    for bytes in streams {
+        assert!(rt; slow_one_agrees(&rt, bytes)?);
     }
     Ok(())
 }
