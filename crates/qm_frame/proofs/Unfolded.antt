@@ -63,7 +63,6 @@ closed_is bytes i h =
     rw (length-take-le i bytes (omega (arith, h)))
     (ap (λ (l : List ℕ). cond (is_message l) (Piece (Ok l ∷ []) i) (after_recovery (fault_of l) i (slice_index_or bytes i 0) (drop (i + 1) bytes))) (sym (take_more bytes i 0 h)))
 
-
 -- what the search for frames finds where the front of the bytes adds these frames
 abbrev pub answers_from : {A : Type 0} → (ℕ → List A) → Option ℕ → List A
 answers_from go (Some count) = go count

@@ -10,7 +10,8 @@ ghost use Rattle.qm_frame.specs.Framing.{after_recovery as recovery, closed_by a
 ghost use Rattle.qm_frame.specs.Ended.{ended, framed, answers_and_count};
 
 use crate::bytes::{
-    begins_number, in_number, is_barred, is_closer, is_letter, is_opener, is_quote, is_reset, is_single, is_space,
+    begins_number, in_number, is_barred, is_closer, is_letter, is_opener, is_quote, is_reset,
+    is_single, is_space,
 };
 use crate::piece::{LastPiece, is_broken};
 use crate::{FrameFault, MAX_DEPTH, MAX_LENGTH};
@@ -174,8 +175,8 @@ fn is_level_open(text: &[u8]) -> bool
     1 <= level && level <= MAX_DEPTH
 }
 
-#[tactic(auto, using(crate::proofs::Unfolded::each_more))]
 /// Whether each prefix of more than so many bytes has an open level.
+#[tactic(auto, using(crate::proofs::Unfolded::each_more))]
 fn is_each_open(text: &[u8], count: usize) -> bool
     requires { count ≤ length text.now }
     ensures { result ≡ each_prefix level_open (take count text.now) (drop count text.now) }
@@ -198,7 +199,8 @@ fn is_open(text: &[u8]) -> bool
 fn is_message(text: &[u8]) -> bool
     ensures { result ≡ message text.now }
 {
-    is_open(&text[..text.len().saturating_sub(1)]) && level_of(text) == 0
+    is_open(&text[..text.len().saturating_sub(1)])
+        && level_of(text) == 0
         && text.len() <= MAX_LENGTH
 }
 
@@ -258,7 +260,7 @@ fn closed_by(bytes: &[u8], count: usize) -> Front
     requires { count < length bytes.now }
     ensures { (framed bytes.now result.frame, result.taken) ≡ answers_and_count
         (closing (take count bytes.now) (slice_index_or bytes.now count 0)
-            (drop (count + 1) bytes.now)) }
+        (drop (count + 1) bytes.now)) }
 {
     let text = &bytes[..count + 1];
     if is_message(text) {
@@ -350,12 +352,7 @@ fn keep(
 }
 
 #[tactic(auto, using(crate::proofs::Unfolded::frames_at))]
-fn search(
-    alloc: Global,
-    frames: &mut Vec<Frame>,
-    left: usize,
-    bytes: &[u8],
-) -> Result<(), NoMemory>
+fn search(alloc: Global, frames: &mut Vec<Frame>, left: usize, bytes: &[u8]) -> Result<(), NoMemory>
     ensures { OnOk result (frames.new.items ≡
         frames.old.items ++ (found_after front Between left bytes.now).answers) }
 {
