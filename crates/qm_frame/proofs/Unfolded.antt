@@ -1,11 +1,10 @@
 -- Definitions unfolded, for the slow program of the tests.
-use Rattle.std.proofs.Common.{◌≡◌, ℕ, List, [], ◌∷◌, ◌-◌, ◌+◌, ◌<◌, ◌≤◌, zero, suc, arith, slice_index_or, ◌==◌, nat_lt, nat_le, cond, ◌&&◌, ◌++◌, Bool, true, false, length, take, drop, refl, ap, sym, subst, ◌∙◌, count_by, Result, Ok, Err, Option, Some, None, append-nil}
+use Rattle.std.proofs.Common.{◌≡◌, ℕ, List, [], ◌∷◌, ◌-◌, ◌+◌, ◌<◌, ◌≤◌, zero, suc, arith, slice_index_or, ◌==◌, nat_lt, nat_le, cond, ◌&&◌, ◌++◌, Bool, length, take, drop, refl, ap, sym, subst, ◌∙◌, count_by, Result, Ok, Err, Option, Some, None, append-nil}
 use Rattle.qm_frame.specs.Ended.{ended, answers_and_count}
 use Rattle.qm_frame.specs.Framing.{first_closed, closed_by, after_recovery, front_of, Between, frames_of}
 use Rattle.std.proofs.lemmas.List.{take_more, drop_more}
 use Rattle.std.proofs.lemmas.List.{take_rest, length-take-le}
 use Rattle.std.proofs.lemmas.List.Sums.{sum_by-append}
-use Rattle.qm_frame.specs.Bytes.{is_space, is_opener, is_closer, is_single}
 use Rattle.qm_frame.specs.declared.step.FrameFault.{FrameFault}
 use Rattle.qm_frame.specs.declared.step.FrameFault.TheVariants.{LexError, TooDeep, TooLong}
 use Rattle.qm_frame.specs.declared.step.TheConstants.{MAX_LENGTH, MAX_DEPTH}

@@ -1,4 +1,4 @@
-use Rattle.std.proofs.Common.{ℕ, ◌+◌, count_by, ap, sym, ◌∙◌, arith}
+use Rattle.std.proofs.Common.{ap, ◌∙◌, arith}
 use Rattle.qm_frame.specs.Bytes.{is_opener, is_closer}
 use Rattle.qm_frame.proofs.Unfolded.{piece_taken, piece_last, count_append}
 use Rattle.qm_frame.proofs.searching.+pieces.Goals as goal

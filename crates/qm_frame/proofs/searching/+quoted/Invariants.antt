@@ -1,4 +1,4 @@
-use Rattle.std.proofs.Common.{◌-◌, length}
+use Rattle.std.proofs.Common.{length}
 use Rattle.qm_frame.proofs.searching.+quoted.Given as goal
 
 abbrev pub decreases-quoted : goal.decreases-quoted
