@@ -178,11 +178,9 @@ fn untaken_lines_overrun(rt: HostRuntime) -> Result<(), Fail> {
     )?;
     let lines = repeated(alloc, line.as_str(), 15)?;
     for (words, status, last) in ENDINGS {
-        let script = joined(
-            alloc,
-            &[scripts::START, requests.as_str(), "take 1\n", words],
-        )?;
-        let want = joined(
+        let mut script = joined(alloc, &[scripts::START, requests.as_str(), "take 1\n"])?;
+        script.push_str(words)?;
+        let mut want = joined(
             alloc,
             &[
                 entries.as_str(),
@@ -190,9 +188,9 @@ fn untaken_lines_overrun(rt: HostRuntime) -> Result<(), Fail> {
                 scripts::GREETING,
                 "> {\"return\": {}}\n",
                 lines.as_str(),
-                last,
             ],
         )?;
+        want.push_str(last)?;
         expect(
             &rt,
             scripts::REPLAY,
