@@ -21,11 +21,11 @@ use Rattle.qapi_tree.specs.Spelling.{at, SpellsTree, flag, string, no_items, lis
 use Rattle.qapi_tree.specs.Stacks.{State, begun, ends_list, ends_object, put, put_object}
 use Rattle.qapi_tree.specs.Steps.{open_list, open_object, close_list, close_object, colon_step, comma_step, mark_step, kind_step, step}
 
-abbrev going : List Open → Expect → State
+abbrev pub going : List Open → Expect → State
 going stack e = record { stack = stack; expect = e }
 
 -- all tokens so far leave this open, and a value comes, or in the row (false) an object
-data Awaits : Bool → List Token → List Open → Type 0 where
+pub data Awaits : Bool → List Token → List Open → Type 0 where
   row : {ts : List Token} {exprs : List Expr} → SpellsRow ts exprs → Awaits false ts (opens.File exprs ∷ [])
   first_item : {ts all : List Token} {stack : List Open} (m d : ℕ) → Awaits true ts stack → all ≡ ts ++ at (Mark 91) m d ∷ [] → Awaits true all (opens.List [] ∷ stack)
   next_item : {ts us all : List Token} {items : List Tree} {stack : List Open} (m d l c : ℕ) → Awaits true ts stack → SpellsItems us items → all ≡ ts ++ (at (Mark 91) m d ∷ us ++ at (Mark 44) l c ∷ []) → Awaits true all (opens.List items ∷ stack)
@@ -33,7 +33,7 @@ data Awaits : Bool → List Token → List Open → Type 0 where
   next_member : {any : Bool} {ts us all : List Token} {members : List TreeMember} {stack : List Open} (key : List ℕ) (m d o p l c k b : ℕ) → Awaits any ts stack → SpellsMembers us members → has_key members key ≡ false → all ≡ ts ++ (at (Mark 123) m d ∷ us ++ at (Mark 44) o p ∷ at (Str key) l c ∷ at (Mark 58) k b ∷ []) → Awaits true all (opens.Dict members key m ∷ stack)
 
 -- what all tokens so far are, by the state that they lead to
-data Holds : List Token → State → Type 0 where
+pub data Holds : List Token → State → Type 0 where
   awaiting : {all : List Token} {stack : List Open} → Awaits true all stack → Holds all (going stack Value)
   row_read : {all : List Token} {exprs : List Expr} → SpellsRow all exprs → Holds all (going (opens.File exprs ∷ []) Object)
   list_begun : {ts all : List Token} {stack : List Open} (m d : ℕ) → Awaits true ts stack → all ≡ ts ++ at (Mark 91) m d ∷ [] → Holds all (going (opens.List [] ∷ stack) ValueOrEnd)
@@ -44,7 +44,7 @@ data Holds : List Token → State → Type 0 where
   first_key : {any : Bool} {ts all : List Token} {stack : List Open} (key : List ℕ) (m d l c : ℕ) → Awaits any ts stack → all ≡ ts ++ at (Mark 123) m d ∷ at (Str key) l c ∷ [] → Holds all (going (opens.Dict [] key m ∷ stack) Colon)
   next_key : {any : Bool} {ts us all : List Token} {members : List TreeMember} {stack : List Open} (key : List ℕ) (m d o p l c : ℕ) → Awaits any ts stack → SpellsMembers us members → has_key members key ≡ false → all ≡ ts ++ (at (Mark 123) m d ∷ us ++ at (Mark 44) o p ∷ at (Str key) l c ∷ []) → Holds all (going (opens.Dict members key m ∷ stack) Colon)
 
-after : (ts us t all ends : List Token) → ts ≡ us ++ ends → all ≡ ts ++ t → all ≡ us ++ (ends ++ t)
+pub after : (ts us t all ends : List Token) → ts ≡ us ++ ends → all ≡ ts ++ t → all ≡ us ++ (ends ++ t)
 after ts us t all ends e f = f ∙ ap (λ (l : List Token). l ++ t) e ∙ append_assoc us ends t
 
 -- a value that was awaited
@@ -135,7 +135,7 @@ holds_step (next_key key m d o p k b a i fresh e) (Str text) l c = tt
 holds_step (next_key {ts = us} {us = ms} {all = ts} {members = members} {stack = stack} key m d o p k b a i fresh e) (Mark x) l c = took_mark ts (going (opens.Dict members key m ∷ stack) Colon) x l c tt tt tt tt (awaiting (next_member key m d o p k b l c a i fresh (after ts us _ _ _ e refl ∙ ap (λ (r : List Token). us ++ at (Mark 123) m d ∷ r) (append_assoc ms (at (Mark 44) o p ∷ at (Str key) k b ∷ []) (at (Mark 58) l c ∷ []))))) tt
 
 -- what a run leads to, from what is held
-abbrev Ran : List Token → Result State TreeFault → Type 0
+abbrev pub Ran : List Token → Result State TreeFault → Type 0
 Ran all (Ok s) = Holds all s
 Ran all (Err f) = Unit {0}
 
@@ -143,7 +143,7 @@ ran_next : (ts us : List Token) (t : Token) (r : Result State TreeFault) → Too
 ran_next ts us t (Ok s) h go = subst (λ (l : List Token). Ran l (run s us)) (append_assoc ts (t ∷ []) us) (go s h)
 ran_next ts us t (Err f) h go = tt
 
-ran : (ts us : List Token) (s : State) → Holds ts s → Ran (ts ++ us) (run s us)
+pub ran : (ts us : List Token) (s : State) → Holds ts s → Ran (ts ++ us) (run s us)
 ran ts [] s h = subst (λ (l : List Token). Holds l s) (sym (append-nil ts)) h
 ran ts (t ∷ us) s h = ran_next ts us t (step s t) (holds_step h t.kind t.line t.column) (λ next held. ran (ts ++ t ∷ []) us next held)
 

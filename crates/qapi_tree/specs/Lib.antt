@@ -8,3 +8,4 @@ pub mod Spelling
 pub mod Stacks
 pub mod Steps
 pub mod Table
+pub mod Viable

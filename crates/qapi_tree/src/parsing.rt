@@ -1,7 +1,9 @@
 ghost use Rattle.std.specs.Prelude.{◌≡◌, ◌≢◌, ◌↔◌, List, None, IfErr, Ok, Err};
 ghost use Rattle.qapi_lex.specs.declared.token.Token.{Token};
 ghost use Rattle.qapi_tree.specs.declared.tree.Expr.{Expr};
+ghost use Rattle.qapi_tree.specs.declared.fault.TreeFault.{TreeFault};
 ghost use Rattle.qapi_tree.specs.Spelling.{SpellsRow};
+ghost use Rattle.qapi_tree.specs.Viable.{HasFirstFault};
 ghost use Rattle.qapi_tree.specs.Faults.{memory_fault};
 ghost use Rattle.qapi_tree.specs.Judging.{expressions_of, first_fault};
 ghost use Rattle.qapi_tree.specs.Reading.{objects_of};
@@ -63,6 +65,13 @@ pub fn parse(alloc: Global, tokens: &TokenList) -> Result<TreeList, TreeFault>
 pub fn each_expression_is_spelled()
     ensures { (tokens : List Token) (exprs : List Expr) →
         (expressions_of tokens ≡ Ok exprs) ↔ (SpellsRow tokens exprs × (first_fault exprs ≡ None)) }
+{}
+
+/// A fault of tokens is their first: all tokens before it begin a row of objects, and with it none
+/// does.
+pub fn each_fault_is_the_first()
+    ensures { (tokens : List Token) (fault : TreeFault) →
+        objects_of tokens ≡ Err fault → HasFirstFault tokens fault }
 {}
 
 /// Want of memory is no fault of tokens.

@@ -4,6 +4,7 @@ pub mod Framing
 pub mod Messages
 pub mod Moves
 pub mod Pieces
+pub mod Ended
 pub mod Splits
 pub mod States
 pub mod Steps

@@ -15,4 +15,6 @@ pub use step::{FrameFault, MAX_DEPTH, MAX_LENGTH, Step};
 #[cfg(test)]
 mod searching;
 #[cfg(test)]
+mod slow_framer;
+#[cfg(test)]
 mod tests;
