@@ -20,7 +20,3 @@ text-so_far journal i within = record {
 -- one entry more
 pub text-next : (journal : List Entry) (i : ℕ) (e : Entry) (piece : List ℕ) → i < length journal → e ≡ get_or journal i e → piece ≡ entry_text_of (i + 1) e → text_of (take (i + 1) journal) ≡ text_of (take i journal) ++ piece
 text-next journal i e piece within is said = grind (arith, common_steps, text_from-append 1 (take i journal) (e ∷ []))
-
--- the same as a part of the text
-pub text-through : (journal : List Entry) (i : ℕ) (e : Entry) (piece : List ℕ) → i < length journal → e ≡ get_or journal i e → piece ≡ entry_text_of (i + 1) e → IsPrefix (text_of (take i journal) ++ piece) (text_of journal)
-text-through journal i e piece within is said = rw (← text-next journal i e piece within is said) (text-so_far journal (i + 1) (omega arith))

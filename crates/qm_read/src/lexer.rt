@@ -89,6 +89,8 @@ pub fn ends_string(quote: u8, taken: bool, byte: u8) -> bool
     byte < 0x20 || (!taken && byte == quote)
 }
 
+/// Whether the byte takes the next one with it, as a backslash does that none took itself (RFC 8259,
+/// section 7).
 pub fn takes_next(taken: bool, byte: u8) -> bool
     ensures { result ≡ next_taken taken byte }
 {

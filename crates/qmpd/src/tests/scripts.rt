@@ -6,14 +6,17 @@ type Run = (
     &'static [&'static str],
 );
 
+/// The words that replay it.
 pub const REPLAY: &[&str] = &["replay", "a.script"];
 
+/// The greeting, as it is handed out.
 pub const GREETING: &str =
     "> {\"QMP\": {\"version\": {\"qemu\": {\"micro\": 0, \"minor\": 0, \"major\": 1}, \"package\": \"qmpd\"}, \"capabilities\": [\"oob\"]}}\n";
 
 const USAGE: &str =
     "error: usage: qmpd check|introspect|replay SCRIPT|serve SOCKET|drill N [--schema F] [--bind F] [--define A,B] [--journal N] [--workers N]\n";
 
+/// The reply with the version, under the id 7.
 pub const VERSION: &str =
     "{\"return\": {\"qemu\": {\"micro\": 0, \"minor\": 0, \"major\": 1}, \"package\": \"qmpd\"}, \"id\": 7}\n";
 

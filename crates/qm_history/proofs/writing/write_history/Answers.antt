@@ -1,4 +1,4 @@
-use Rattle.std.proofs.Common.{◌≡◌, ◌∙◌, ◌+◌, arith}
+use Rattle.std.proofs.Common.{◌∙◌, ◌+◌, arith}
 use Rattle.qm_base.proofs.Telling.{puts-part}
 use Rattle.qm_history.proofs.Gathering.{gathers-entry, gathers-part, gathers-put_part, gathers-twice}
 use Rattle.qm_history.proofs.Numbering.{text-so_far}
