@@ -39,6 +39,7 @@ pub const ORDINARY: &[&str] = &[
     "9 eof 1\n10 drop 1 ended\nend 10\n",
 ];
 
+/// Each run with its end.
 pub const RUNS: &[Run] = &[
     (
         REPLAY,
