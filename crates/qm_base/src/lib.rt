@@ -3,6 +3,7 @@
 #![tactic(auto)]
 
 pub mod calls;
+pub mod growing;
 pub mod history;
 pub mod numerals;
 pub mod reserved;
@@ -10,6 +11,7 @@ pub mod shared;
 pub mod text;
 
 pub use calls::CallList;
+pub use growing::GrowingList;
 pub use history::History;
 pub use numerals::number;
 pub use reserved::ReservedList;
