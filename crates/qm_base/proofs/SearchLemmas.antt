@@ -2,6 +2,12 @@
 use Rattle.std.proofs.Common.{◌≡◌, Bool, true, false, cond, ℕ, ◌+◌, ◌≤◌, zero, suc, List, [], ◌∷◌, ◌++◌, length, refl, ap, sym, ◌∙◌, arith, append_assoc, length-append}
 use Rattle.qm_base.specs.Search.{Front, Piece, Final, Found, after_front, found_after, joined, Grows}
 
+module _ {X A R : Type 0} (step : R → X → Found A R) (none : R) where
+  -- a choice grows where both sides do
+  pub cond-grows : (b : Bool) (n : ℕ) (x : X) (f1 f2 g1 g2 : Front A R) → Grows step none n x f1 g1 → Grows step none n x f2 g2 → Grows step none n x (cond b f1 f2) (cond b g1 g2)
+  cond-grows true n x f1 f2 g1 g2 h1 h2 = h1
+  cond-grows false n x f1 f2 g1 g2 h1 h2 = h2
+
 module _ {X A R : Type 0} (front : X → List X → Front A R) (none : R) (step : R → X → Found A R) where
   found-empty : (b : List X) → found_after front none (length b) b ≡ record { answers = []; rest = none }
   found-empty [] = refl
@@ -20,11 +26,6 @@ module _ {X A R : Type 0} (front : X → List X → Front A R) (none : R) (step 
       ∙ ap (λ (f : Found A R). record { answers = fs ++ f.answers; rest = f.rest }) (inner k h.1)
       ∙ ap (λ (l : List A). record { answers = l; rest = (joined step (found_after front none k ys) x).rest }) (sym (append_assoc fs (found_after front none k ys).answers _))
   after-grows (Final fs r) g ys x h first inner = h (λ k. found_after front none k (ys ++ x ∷ [])) (found-last ys x ∙ first) (let e : found_after front none (length (ys ++ x ∷ [])) (ys ++ x ∷ []) ≡ record { answers = []; rest = none } = found-empty (ys ++ x ∷ []) in rw (← one_more ys x) e)
-
-  -- a choice grows where both sides do
-  pub cond-grows : (b : Bool) (n : ℕ) (x : X) (f1 f2 g1 g2 : Front A R) → Grows step none n x f1 g1 → Grows step none n x f2 g2 → Grows step none n x (cond b f1 f2) (cond b g1 g2)
-  cond-grows true n x f1 f2 g1 g2 h1 h2 = h1
-  cond-grows false n x f1 f2 g1 g2 h1 h2 = h2
 
   -- where each front grows so, and one item alone is a step from nothing
   pub found_after-more : ((y : X) (ys : List X) (x : X) → Grows step none (length ys) x (front y ys) (front y (ys ++ x ∷ []))) →

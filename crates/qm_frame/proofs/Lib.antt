@@ -1,5 +1,4 @@
 mod FramingLemmas
-pub mod Growth
 mod Levels
 mod Opens
 mod OneMore
