@@ -10,6 +10,3 @@ pub mod step;
 
 pub use framer::Framer;
 pub use step::{FrameFault, MAX_DEPTH, MAX_LENGTH, Step};
-
-#[cfg(test)]
-mod tests;
