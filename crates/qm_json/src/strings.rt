@@ -1,12 +1,13 @@
 ghost use Rattle.std.specs.Prelude.{◌≡◌, ◌∷◌, [], ◌++◌, ◌<◌, ◌^◌, chars, flat_map, cond, unwrap_or};
 ghost use Rattle.std.specs.List.{list_all};
-ghost use Rattle.qm_json.specs.Strings.{code_points, hex_digit as digit_of, unit_escape, unicode_escape, plain_or_unicode, escaped, escapes, is_plain, chunk_escapes, quoted};
+ghost use Rattle.qm_json.specs.Strings;
+ghost use Rattle.qm_json.specs.Strings.{code_points, unit_escape, unicode_escape, plain_or_unicode, escaped, escapes, is_plain, chunk_escapes, quoted};
 
 use crate::output::Output;
 
 fn hex_digit(n: u16) -> u8
     requires { n < 16 }
-    ensures { result ≡ digit_of n }
+    ensures { result ≡ Strings.hex_digit n }
 {
     if n < 10 {
         n as u8 + b'0'
