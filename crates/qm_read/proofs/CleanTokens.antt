@@ -1,123 +1,112 @@
--- The tokens of a text hold what a clean value may hold.
-use Rattle.std.proofs.Common.{◌≡◌, ◌≢◌, ℕ, Bool, true, false, cond, ◌==◌, zero, suc, List, [], ◌∷◌, ◌++◌, take, drop, codes, Option, Some, None, Result, Ok, Err, refl}
+-- The tokens of a text hold what a clean value may hold, and stand in the text.
+use Rattle.std.proofs.Common.{◌≡◌, ℕ, ◌+◌, ◌<◌, ◌≤◌, Bool, true, false, cond, ◌==◌, zero, suc, List, [], ◌∷◌, ◌++◌, take, drop, length, codes, Option, Some, None, Result, Ok, Err, IfSome, refl, arith}
+use Rattle.std.specs.List.{prefix_len}
+use Rattle.std.proofs.lemmas.Bool.{and_parts, cond_both}
+use Rattle.std.proofs.lemmas.List.{length-take}
 use Rattle.std.proofs.lemmas.Str.{is_utf8-from_IsUtf8}
 use Rattle.std.specs.Str.{bytes_eq, is_utf8}
 use Rattle.std.specs.Str.Parse.{signed_digits_value}
-use Rattle.qm_base.specs.Search.{Front, Piece, Final, Found, after_front, found_after}
 use Rattle.qm_frame.specs.Bytes.{is_space, begins_number, in_number, is_letter, is_quote}
 use Rattle.qm_json.specs.Numbers.{is_literal, is_whole_part, after_minus, is_whole_literal, is_in_whole_range}
 use Rattle.qm_read.specs.declared.fault.JsonFault.{JsonFault}
-use Rattle.qm_read.specs.declared.fault.JsonFault.TheVariants.{Expected, Memory}
-use Rattle.qm_read.specs.declared.token.Last.{Last}
-use Rattle.qm_read.specs.declared.token.Last.TheVariants.{Whole, Number, Word, Str}
+use Rattle.qm_read.specs.declared.token.Lexeme.{Lexeme}
 use Rattle.qm_read.specs.declared.token.Token.{Token}
 use Rattle.qm_read.specs.declared.token.Token.TheVariants as tokens
-use Rattle.qm_read.specs.declared.token.Placed.{Placed}
-use Rattle.qm_read.specs.Bytes.{Byte, numbered, codes_of, first_not}
-use Rattle.qm_read.specs.Strings.{raw_length, text_of}
-use Rattle.qm_read.specs.Tokens.{literal_token, number_token, word_token, mark_token, string_token, run_to, string_at, string_to, piece, found, closing, tokens_of}
-use Rattle.qm_read.proofs.CleanTexts.{second, IsClear, text_of-clear}
+use Rattle.qm_read.specs.Strings.{takes_next, ends_string, string_length, text_of}
+use Rattle.qm_read.specs.Texts.{IsWithin}
+use Rattle.qm_read.specs.Tokens.{Placed, literal_token, number_token, word_token, mark_token, string_token, stop_at, run_lexeme, string_lexeme, lexeme_of, placed, tokens_here, tokens_of}
+use Rattle.qm_read.specs.Walks.{walk}
+use Rattle.qm_read.proofs.CleanTexts.{IsClear, text_of-clear}
 
-abbrev pub IsSound : Token → Type 0
-IsSound (tokens.Int n) = is_in_whole_range n ≡ true
-IsSound (tokens.Num text) = (is_literal text ≡ true) × (is_whole_literal text ≡ false)
-IsSound (tokens.Str text) = is_utf8 text ≡ true
-IsSound (tokens.Bad fault) = fault ≢ Memory
-IsSound _ = Unit {0}
+string_length-le : (quote : ℕ) (taken : Bool) (xs : List ℕ) → string_length quote taken xs ≤ length xs
+string_length-le quote taken [] = omega arith
+string_length-le quote taken (x ∷ xs) =
+    let inner = string_length-le quote (takes_next taken x) xs in
+    cond_both (ends_string quote taken x) _ _ (λ (k : ℕ). k ≤ suc (length xs)) (λ e. omega arith) (λ e. omega (arith, inner))
 
-abbrev pub AreSound : List Placed → Type 0
-AreSound [] = Unit {0}
-AreSound (t ∷ ts) = IsSound t.token × AreSound ts
+-- of a text of this length
+module _ (n : ℕ) where
+  abbrev pub IsSound : Token → Type 0
+  IsSound (tokens.Int i) = is_in_whole_range i ≡ true
+  IsSound (tokens.Num text) = (is_literal text ≡ true) × (is_whole_literal text ≡ false)
+  IsSound (tokens.Str text) = is_utf8 text ≡ true
+  IsSound (tokens.Bad fault) = IsWithin n fault
+  IsSound _ = Unit {0}
 
-pub sound-append : (ts us : List Placed) → AreSound ts → AreSound us → AreSound (ts ++ us)
-sound-append [] us h k = k
-sound-append (t ∷ ts) us h k = (h.0, sound-append ts us h.1 k)
+  pub record IsSoundAt (t : Placed) : Type 0 where
+    pub place : t.place < n
+    pub token : IsSound t.token
 
-pub sound-front : (ts us : List Placed) → AreSound (ts ++ us) → AreSound ts
-sound-front [] us h = tt
-sound-front (t ∷ ts) us h = (h.0, sound-front ts us h.1)
+  abbrev pub AreSound : List Placed → Type 0
+  AreSound [] = Unit {0}
+  AreSound (t ∷ ts) = IsSoundAt t × AreSound ts
 
-pub sound-rest : (ts us : List Placed) → AreSound (ts ++ us) → AreSound us
-sound-rest [] us h = h
-sound-rest (t ∷ ts) us h = sound-rest ts us h.1
+  pub sound-front : (ts us : List Placed) → AreSound (ts ++ us) → AreSound ts
+  sound-front [] us h = tt
+  sound-front (t ∷ ts) us h = (h.0, sound-front ts us h.1)
 
-expected : (place : ℕ) → Expected place ≢ Memory
-expected place e = cc
+  pub sound-rest : (ts us : List Placed) → AreSound (ts ++ us) → AreSound us
+  sound-rest [] us h = h
+  sound-rest (t ∷ ts) us h = sound-rest ts us h.1
 
-cond-sound : (b : Bool) (t u : Token) → (b ≡ true → IsSound t) → (b ≡ false → IsSound u) → IsSound (cond b t u)
-cond-sound true t u h k = h refl
-cond-sound false t u h k = k refl
+  literal-sound : (text : List ℕ) (b : Bool) → is_literal text ≡ true → is_whole_literal text ≡ b → IsSound (literal_token text (cond b (Some (signed_digits_value 10 text)) None))
+  literal-sound text true h e = (and_parts (is_whole_part (after_minus text)) (is_in_whole_range (signed_digits_value 10 text)) e).1
+  literal-sound text false h e = (h, e)
 
-literal-sound : (text : List ℕ) (b : Bool) → is_literal text ≡ true → is_whole_literal text ≡ b → IsSound (literal_token text (cond b (Some (signed_digits_value 10 text)) None))
-literal-sound text true h e = second (is_whole_part (after_minus text)) (is_in_whole_range (signed_digits_value 10 text)) e
-literal-sound text false h e = (h, e)
+  number-sound : (place : ℕ) (text : List ℕ) → place ≤ n → IsSound (number_token place text)
+  number-sound place text h = cond_both (is_literal text) _ _ IsSound (λ e. literal-sound text (is_whole_literal text) e refl) (λ e. h)
 
-number-sound : (place : ℕ) (text : List ℕ) → IsSound (number_token place text)
-number-sound place text = cond-sound (is_literal text) _ _ (λ h. literal-sound text (is_whole_literal text) h refl) (λ h. expected place)
+  word-sound : (place : ℕ) (text : List ℕ) → place ≤ n → IsSound (word_token place text)
+  word-sound place text h =
+      cond_both (bytes_eq text (codes "null")) _ _ IsSound (λ e. tt) (λ e.
+      cond_both (bytes_eq text (codes "true")) _ _ IsSound (λ e. tt) (λ e.
+      cond_both (bytes_eq text (codes "false")) _ _ IsSound (λ e. tt) (λ e. h)))
 
-word-sound : (place : ℕ) (text : List ℕ) → IsSound (word_token place text)
-word-sound place text =
-    cond-sound (bytes_eq text (codes "null")) _ _ (λ e. tt) (λ e.
-    cond-sound (bytes_eq text (codes "true")) _ _ (λ e. tt) (λ e.
-    cond-sound (bytes_eq text (codes "false")) _ _ (λ e. tt) (λ e. expected place)))
+  mark-sound : (place x : ℕ) → place ≤ n → IsSound (mark_token place x)
+  mark-sound place x h =
+      cond_both (x == 123) _ _ IsSound (λ e. tt) (λ e.
+      cond_both (x == 125) _ _ IsSound (λ e. tt) (λ e.
+      cond_both (x == 91) _ _ IsSound (λ e. tt) (λ e.
+      cond_both (x == 93) _ _ IsSound (λ e. tt) (λ e.
+      cond_both (x == 58) _ _ IsSound (λ e. tt) (λ e.
+      cond_both (x == 44) _ _ IsSound (λ e. tt) (λ e. h))))))
 
-mark-sound : (place x : ℕ) → IsSound (mark_token place x)
-mark-sound place x =
-    cond-sound (x == 123) _ _ (λ e. tt) (λ e.
-    cond-sound (x == 125) _ _ (λ e. tt) (λ e.
-    cond-sound (x == 91) _ _ (λ e. tt) (λ e.
-    cond-sound (x == 93) _ _ (λ e. tt) (λ e.
-    cond-sound (x == 58) _ _ (λ e. tt) (λ e.
-    cond-sound (x == 44) _ _ (λ e. tt) (λ e. expected place))))))
+  string-sound : (r : Result (List ℕ) JsonFault) (stop : Option ℕ) → IsClear n r → IfSome stop (λ place. place ≤ n) → IsSound (string_token r stop)
+  string-sound (Err fault) stop h k = h
+  string-sound (Ok text) None h k = is_utf8-from_IsUtf8 text h
+  string-sound (Ok text) (Some place) h k = k
 
-string-sound : (r : Result (List ℕ) JsonFault) (stop : Option ℕ) → IsClear r → IsSound (string_token r stop)
-string-sound (Err fault) stop h = h
-string-sound (Ok text) None h = is_utf8-from_IsUtf8 text h
-string-sound (Ok text) (Some place) h = expected place
+  stop-within : (place quote : ℕ) (rest : List ℕ) → place ≤ n → IfSome (stop_at place quote rest) (λ place. place ≤ n)
+  stop-within place quote [] h = h
+  stop-within place quote (y ∷ rest) h = cond_both (y == quote) _ _ (λ (o : Option ℕ). IfSome o (λ place. place ≤ n)) (λ e. tt) (λ e. h)
 
-abbrev FrontSound : Front Placed Last → Type 0
-FrontSound (Piece ts k) = AreSound ts
-FrontSound (Final ts last) = AreSound ts
+  abbrev LexemeSound : Lexeme → Type 0
+  LexemeSound l = IfSome l.token IsSound
 
-cond-front : (b : Bool) (f g : Front Placed Last) → FrontSound f → FrontSound g → FrontSound (cond b f g)
-cond-front true f g h k = h
-cond-front false f g h k = k
+  string_lexeme-sound : (place quote : ℕ) (rest : List ℕ) (k : ℕ) → place + 1 + length rest ≤ n → k ≤ length rest → LexemeSound (string_lexeme place quote rest k)
+  string_lexeme-sound place quote rest k h le =
+      string-sound (text_of place (take k rest)) (stop_at (place + 1 + k) quote (drop k rest)) (text_of-clear n place (take k rest) (omega (arith, h, length-take k rest))) (stop-within (place + 1 + k) quote (drop k rest) (omega (arith, h, le)))
 
-run-sound : (last : List ℕ → Last) (token : List ℕ → Token) (x : Byte) (rest : List Byte) (o : Option ℕ) → ((text : List ℕ) → IsSound (token text)) → FrontSound (run_to last token x rest o)
-run-sound last token x rest None h = tt
-run-sound last token x rest (Some n) h = (h (codes_of (x ∷ take n rest)), tt)
+  lexeme-sound : (place x : ℕ) (rest : List ℕ) → place + 1 + length rest ≤ n → LexemeSound (lexeme_of place x rest)
+  lexeme-sound place x rest h =
+      let here : place ≤ n = omega (arith, h) in
+      cond_both (is_space x) _ _ LexemeSound (λ e. tt) (λ e.
+      cond_both (begins_number x) _ _ LexemeSound (λ e. number-sound place (x ∷ take (prefix_len in_number rest) rest) here) (λ e.
+      cond_both (is_letter x) _ _ LexemeSound (λ e. word-sound place (x ∷ take (prefix_len is_letter rest) rest) here) (λ e.
+      cond_both (is_quote x) _ _ LexemeSound (λ e. string_lexeme-sound place x rest (string_length x false rest) h (string_length-le x false rest)) (λ e.
+      mark-sound place x here))))
 
-string_at-sound : (x : Byte) (raw : List ℕ) (n : ℕ) (rest : List Byte) → FrontSound (string_at x raw n rest)
-string_at-sound x raw n [] = tt
-string_at-sound x raw n (y ∷ rest) = (string-sound (text_of x.place raw) (cond (y.code == x.code) None (Some y.place)) (text_of-clear x.place raw), tt)
+  placed-sound : (o : Option Token) (place : ℕ) (ts : List Placed) → place < n → IfSome o IsSound → AreSound ts → AreSound (placed o place ++ ts)
+  placed-sound None place ts h s k = k
+  placed-sound (Some t) place ts h s k = (record { place = h; token = s }, k)
 
-string_to-sound : (x : Byte) (rest : List Byte) (o : Option ℕ) → FrontSound (string_to x rest o)
-string_to-sound x rest None = tt
-string_to-sound x rest (Some n) = string_at-sound x (codes_of (take n rest)) n (drop n rest)
+  walk-sound : (k place : ℕ) (bytes : List ℕ) → place + length bytes ≤ n → AreSound (walk tokens_here [] k place bytes)
+  walk-sound k place [] h = tt
+  walk-sound (suc k) place (x ∷ rest) h = walk-sound k (place + 1) rest (omega (arith, h))
+  walk-sound zero place (x ∷ rest) h =
+      let l : Lexeme = lexeme_of place x rest in
+      placed-sound l.token place _ (omega (arith, h)) (lexeme-sound place x rest (omega (arith, h))) (walk-sound l.more (place + 1) rest (omega (arith, h)))
 
-piece-sound : (x : Byte) (rest : List Byte) → FrontSound (piece x rest)
-piece-sound x rest =
-    cond-front (is_space x.code) _ _ tt
-    (cond-front (begins_number x.code) _ _ (run-sound (Number x.place) (number_token x.place) x rest (first_not in_number rest) (number-sound x.place))
-    (cond-front (is_letter x.code) _ _ (run-sound (Word x.place) (word_token x.place) x rest (first_not is_letter rest) (word-sound x.place))
-    (cond-front (is_quote x.code) _ _ (string_to-sound x rest (raw_length x.code false rest))
-    (mark-sound x.place x.code, tt))))
-
-after-sound : (f : Front Placed Last) (go : ℕ → Found Placed Last) → FrontSound f → ((k : ℕ) → AreSound (go k).answers) → AreSound (after_front f go).answers
-after-sound (Piece ts k) go h g = sound-append ts (go k).answers h (g k)
-after-sound (Final ts last) go h g = h
-
-found-sound : (k : ℕ) (xs : List Byte) → AreSound (found_after piece Whole k xs).answers
-found-sound k [] = tt
-found-sound (suc k) (x ∷ xs) = found-sound k xs
-found-sound zero (x ∷ xs) = after-sound (piece x xs) (λ k. found_after piece Whole k xs) (piece-sound x xs) (λ k. found-sound k xs)
-
-closing-sound : (last : Last) (length : ℕ) → AreSound (closing last length)
-closing-sound Whole length = tt
-closing-sound (Number place text) length = (number-sound place text, tt)
-closing-sound (Word place text) length = (word-sound place text, tt)
-closing-sound (Str place quote taken raw) length = (string-sound (text_of place raw) (Some length) (text_of-clear place raw), tt)
-
-pub tokens-sound : (text : List ℕ) → AreSound (tokens_of text)
+pub tokens-sound : (text : List ℕ) → AreSound (length text) (tokens_of text)
 unfolding tokens_of
-tokens-sound text = sound-append (found (numbered 0 text)).answers _ (found-sound 0 (numbered 0 text)) (closing-sound (found (numbered 0 text)).rest _)
+tokens-sound text = walk-sound (length text) 0 0 text (omega arith)

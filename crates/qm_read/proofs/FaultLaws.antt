@@ -6,8 +6,7 @@ use Rattle.qm_read.specs.declared.fault.JsonFault.{JsonFault}
 use Rattle.qm_read.specs.declared.fault.JsonFault.TheVariants.{Expected, Duplicate}
 use Rattle.qm_read.specs.declared.token.Token.{Token}
 use Rattle.qm_read.specs.declared.token.Token.TheVariants as tokens
-use Rattle.qm_read.specs.declared.token.Placed.{Placed}
-use Rattle.qm_read.specs.Tokens.{at}
+use Rattle.qm_read.specs.Tokens.{Placed, at}
 use Rattle.qm_read.specs.Spelling.{SpellsValue}
 use Rattle.qm_read.specs.Stacks.{State, begun}
 use Rattle.qm_read.specs.Steps.{step}

@@ -4,17 +4,13 @@ pub mod CleanTexts
 pub mod CleanTokens
 pub mod CleanValues
 pub mod FaultLaws
-pub mod Feeds
 pub mod FirstFaults
 pub mod Fresh
 pub mod Holds
-pub mod LexemeLaws
-pub mod Lexing
 pub mod LiteralLemmas
 pub mod NameLemmas
 pub mod Nested
 pub mod NumberBytes
-pub mod Numbered
 pub mod Pieces
 pub mod PlainStrings
 pub mod PrintedLists
@@ -25,3 +21,4 @@ pub mod Runs
 pub mod StringEscapes
 pub mod StringLemmas
 pub mod UnitEscapes
+pub mod WalkLaws

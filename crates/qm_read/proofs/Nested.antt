@@ -5,7 +5,7 @@ use Rattle.qm_json.specs.declared.value.Json.{Json}
 use Rattle.qm_json.specs.declared.value.Member.{Member}
 use Rattle.qm_json.specs.Nesting.{depth, depth_member, deepest}
 use Rattle.qm_json.proofs.NestingLaws.{depth-Null, depth-Bool, depth-Int, depth-Num, depth-Str, depth-Arr, depth-Obj, depth_member-is, deepest-more}
-use Rattle.qm_read.specs.declared.token.Placed.{Placed}
+use Rattle.qm_read.specs.Tokens.{Placed}
 use Rattle.qm_read.specs.Faults.{reading_of}
 use Rattle.qm_read.specs.Spelling.{SpellsValue, null, bool, int, num, string, no_items, array, no_members, object, SpellsItems, item, more_items, SpellsMembers, member, more_members}
 use Rattle.qm_read.proofs.Results.{value-spelled}

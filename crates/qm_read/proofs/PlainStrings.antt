@@ -6,12 +6,11 @@ use Rattle.qm_read.specs.declared.fault.JsonFault.{JsonFault}
 use Rattle.qm_read.specs.declared.strings.Part.{Part}
 use Rattle.qm_read.specs.declared.token.Lexeme.{Lexeme}
 use Rattle.qm_read.specs.declared.token.Token.TheVariants as tokens
-use Rattle.qm_read.specs.Decoding.{Decodes}
+use Rattle.qm_read.specs.Progress.{Advances, decoded_from}
 use Rattle.qm_read.specs.Escapes.{escape}
-use Rattle.qm_read.specs.Lexemes.{string_length, string_lexeme}
 use Rattle.qm_read.specs.Spans.{is_plain}
-use Rattle.qm_read.specs.Strings.{takes_next, ends_string, character, after_part, followed_by, text_after, text_of}
-use Rattle.qm_read.specs.Tokens.{string_token}
+use Rattle.qm_read.specs.Strings.{takes_next, ends_string, string_length, character, after_part, followed_by, text_after, text_of}
+use Rattle.qm_read.specs.Tokens.{string_token, string_lexeme}
 use Rattle.qm_read.proofs.StringLemmas.{character-ascii, followed_by-twice, after_nothing}
 
 low : (q x : ℕ) → is_plain q x ≡ true → x < 128
@@ -53,7 +52,7 @@ plain_front q p (x ∷ xs) = at_test (is_plain q x) refl (plain_front q (p + 1) 
         ∙ followed_by-twice (x ∷ []) (take n xs) (text_after 0 (p + 1 + n) (drop n xs)))
 
 -- such bytes were appended
-pub plain_taken : (q : ℕ) (old new bytes : List ℕ) (place n : ℕ) → n ≡ prefix_len (is_plain q) bytes → 0 < n → n ≤ length bytes → new ≡ old ++ take n bytes → Decodes old place bytes (Ok n) new
+pub plain_taken : (q : ℕ) (old new bytes : List ℕ) (place n : ℕ) → n ≡ prefix_len (is_plain q) bytes → 0 < n → n ≤ length bytes → new ≡ old ++ take n bytes → Advances decoded_from old place bytes (Ok n) new
 plain_taken q old new bytes place n e some within m = (
   some,
   within,
@@ -87,11 +86,11 @@ plain_text place q rest = plain_whole q (place + 1) rest
 
 -- a string of such bytes up to its closing quote
 pub plain_lexeme : (place q n : ℕ) (rest : List ℕ) → n ≡ prefix_len (is_plain q) rest → n < length rest → get_or rest n 0 ≡ q →
-    string_lexeme place q rest (string_length q false rest) ≡ record { token = Some (tokens.Str (take n rest)); length = n + 2 }
+    string_lexeme place q rest (string_length q false rest) ≡ record { token = Some (tokens.Str (take n rest)); more = n + 1 }
 plain_lexeme place q n rest e lt at =
     let m : ℕ = prefix_len (is_plain q) rest in
     let left : drop m rest ≡ q ∷ drop (suc m) rest = rw (← e) (drop-cons rest n 0 lt ∙ ap (λ (x : ℕ). x ∷ drop (suc n) rest) at) in
-    let short : min (m + 2) (length rest + 1) ≡ n + 2 = omega (arith, e, lt) in
+    let short : min (m + 1) (length rest) ≡ n + 1 = omega (arith, e, lt) in
     let same : (q == q) ≡ true = grind (arith, nat_tests) in
     ap (string_lexeme place q rest) (extent q rest (drop (suc m) rest) left)
-    ∙ rw (left, same, short, e) (ap (λ (r : Result (List ℕ) JsonFault). let l : Lexeme = record { token = Some (string_token r None); length = m + 2 } in l) (plain_text place q rest))
+    ∙ rw (left, same, short, e) (ap (λ (r : Result (List ℕ) JsonFault). let l : Lexeme = record { token = Some (string_token r None); more = m + 1 } in l) (plain_text place q rest))

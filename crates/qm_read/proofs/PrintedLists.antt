@@ -20,16 +20,15 @@ use Rattle.qm_read.specs.declared.stack.Open.{Open}
 use Rattle.qm_read.specs.declared.stack.Open.TheVariants.{Arr, Obj}
 use Rattle.qm_read.specs.declared.stack.Expect.{Expect}
 use Rattle.qm_read.specs.declared.stack.Expect.TheVariants.{Value, ValueOrEnd, Name, NameOrEnd, Colon, CommaOrEnd}
-use Rattle.qm_read.specs.Bytes.{numbered}
 use Rattle.qm_read.specs.Stacks.{State, takes_value, takes_name, put}
 use Rattle.qm_read.specs.Steps.{step}
 use Rattle.qm_read.specs.Faults.{ended}
-use Rattle.qm_read.specs.Tokens.{found, tokens_in}
+use Rattle.qm_read.specs.Tokens.{tokens_from}
 use Rattle.qm_json.specs.Nesting.{depth, depth_member, deepest}
 use Rattle.qm_json.proofs.Distinct.{names, new-name}
 use Rattle.qm_json.proofs.NestingLaws.{depth_member-is}
 use Rattle.qm_read.proofs.Accepts.{going, Room, opens_array, opens_object, deeper}
-use Rattle.qm_read.proofs.Pieces.{Leads, read_from, ends_run, string-leads, comma-leads, commas-end}
+use Rattle.qm_read.proofs.Pieces.{Leads, read_from, ends_run, string-leads, space-leads, comma-leads, commas-end}
 
 module _ (n : ℕ) (answer : Result Json JsonFault) where
   -- from the state the text leads to the answer
@@ -57,7 +56,7 @@ module _ (n : ℕ) (answer : Result Json JsonFault) where
       let parts = and_parts (is_utf8 m.name) (is_clean m.value) (sym (is_clean_member-is m) ∙ clean) in
       subst (On (going (Obj done [] ∷ stack) e)) (sym (member-text m rest))
       (string-leads n answer m.name (going (Obj done [] ∷ stack) e) (going (Obj done m.name ∷ stack) Colon) (58 ∷ 32 ∷ printed m.value ++ rest) (IsUtf8-from_is_utf8 m.name parts.0) (name-step done m.name stack e t new)
-      (λ place. h parts.1 d (omega (arith, deep, depth_member-is m)) (Obj done m.name) stack Value rest refl room k leads (place + 1 + 1)))
+      (λ place. space-leads n answer (going (Obj done m.name ∷ stack) Value) (printed m.value ++ rest) (h parts.1 d (omega (arith, deep, depth_member-is m)) (Obj done m.name) stack Value rest refl room k leads) (place + 1)))
 
   -- an array or an object in what is open, and a text after it
   module _ (next : Open) (outer : List Open) (rest : List ℕ) where
@@ -95,13 +94,13 @@ module _ (n : ℕ) (answer : Result Json JsonFault) where
         On (put (json.Arr items) (next ∷ outer)) rest → On (going (next ∷ outer) e) (array_text (map printed items) ++ rest)
     array-leads zero items e hs clean deep t room leads = absurd (omega (arith, deep))
     array-leads (suc d) [] e hs clean deep t room leads = λ place.
-        ap (λ (r : Result State JsonFault). ended r n) (opens_array d (next ∷ outer) e place (tokens_in (found (numbered (place + 1) (93 ∷ rest))) n) t room) ∙ leads (place + 1 + 1)
+        ap (λ (r : Result State JsonFault). ended r n) (opens_array d (next ∷ outer) e place (tokens_from (place + 1) (93 ∷ rest)) t room) ∙ leads (place + 1 + 1)
     array-leads (suc d) (v ∷ items) e hs clean deep t room leads = λ place.
         let parts = and_parts (is_clean v) (list_all is_clean items) clean in
         let inside : Room d (Inner (Arr [])) = deeper d (next ∷ outer) (Arr []) room in
         let more : List ℕ = flat_map after_comma (map printed items) in
         ap (λ (l : List ℕ). read_from n answer (going (next ∷ outer) e) place (91 ∷ l)) (first-text (printed v) more 93)
-        ∙ ap (λ (r : Result State JsonFault). ended r n) (opens_array d (next ∷ outer) e place (tokens_in (found (numbered (place + 1) (printed v ++ (more ++ 93 ∷ rest)))) n) t room)
+        ∙ ap (λ (r : Result State JsonFault). ended r n) (opens_array d (next ∷ outer) e place (tokens_from (place + 1) (printed v ++ (more ++ 93 ∷ rest))) t room)
         ∙ hs.0 parts.0 d (omega (arith, deep)) (Arr []) (next ∷ outer) ValueOrEnd (more ++ 93 ∷ rest) refl inside (commas-end (map printed items) (93 ∷ rest) refl)
         (items-lead d items (v ∷ []) hs.1 parts.1 (omega (arith, deep)) inside leads) (place + 1)
 
@@ -109,12 +108,12 @@ module _ (n : ℕ) (answer : Result Json JsonFault) where
         On (put (json.Obj members) (next ∷ outer)) rest → On (going (next ∷ outer) e) (object_text (map printed_member members) ++ rest)
     object-leads zero members e hs clean distinct deep t room leads = absurd (omega (arith, deep))
     object-leads (suc d) [] e hs clean distinct deep t room leads = λ place.
-        ap (λ (r : Result State JsonFault). ended r n) (opens_object d (next ∷ outer) e place (tokens_in (found (numbered (place + 1) (125 ∷ rest))) n) t room) ∙ leads (place + 1 + 1)
+        ap (λ (r : Result State JsonFault). ended r n) (opens_object d (next ∷ outer) e place (tokens_from (place + 1) (125 ∷ rest)) t room) ∙ leads (place + 1 + 1)
     object-leads (suc d) (m ∷ members) e hs clean distinct deep t room leads = λ place.
         let parts = and_parts (is_clean_member m) (list_all is_clean_member members) clean in
         let inside : Room d (Inner (Arr [])) = deeper d (next ∷ outer) (Arr []) room in
         let more : List ℕ = flat_map after_comma (map printed_member members) in
         ap (λ (l : List ℕ). read_from n answer (going (next ∷ outer) e) place (123 ∷ l)) (first-text (printed_member m) more 125)
-        ∙ ap (λ (r : Result State JsonFault). ended r n) (opens_object d (next ∷ outer) e place (tokens_in (found (numbered (place + 1) (printed_member m ++ (more ++ 125 ∷ rest)))) n) t room)
+        ∙ ap (λ (r : Result State JsonFault). ended r n) (opens_object d (next ∷ outer) e place (tokens_from (place + 1) (printed_member m ++ (more ++ 125 ∷ rest))) t room)
         ∙ member-leads d m [] (next ∷ outer) NameOrEnd (more ++ 125 ∷ rest) hs.0 parts.0 (omega (arith, deep)) refl refl inside (commas-end (map printed_member members) (125 ∷ rest) refl)
         (members-lead d members (m ∷ []) hs.1 parts.1 distinct (omega (arith, deep)) inside leads) (place + 1)

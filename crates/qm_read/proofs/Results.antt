@@ -1,14 +1,14 @@
 -- What a text is read as, by what it spells and by its first fault.
-use Rattle.std.proofs.Common.{◌≡◌, ◌≢◌, ℕ, List, length, Result, Ok, Err, IfOk, IfErr, refl, sym}
+use Rattle.std.proofs.Common.{◌≡◌, ◌≢◌, ℕ, List, length, Result, Ok, Err, IfOk, IfErr, sym}
 use Rattle.qm_json.specs.Cleanness.{IsClean}
 use Rattle.qm_json.specs.declared.value.Json.{Json}
 use Rattle.qm_read.specs.declared.fault.JsonFault.{JsonFault}
 use Rattle.qm_read.specs.declared.fault.JsonFault.TheVariants.{Memory}
 use Rattle.qm_read.specs.Faults.{reading_of}
-use Rattle.qm_read.specs.Texts.{Spells, HasFault}
+use Rattle.qm_read.specs.Texts.{Spells, HasFault, IsWithin}
 use Rattle.qm_read.specs.Tokens.{tokens_of}
 use Rattle.qm_read.proofs.Accepts.{reading-spelled}
-use Rattle.qm_read.proofs.CleanValues.{spelled-clean, fault-told}
+use Rattle.qm_read.proofs.CleanValues.{spelled-clean, fault-within}
 use Rattle.qm_read.proofs.FaultLaws.{reading-faulty}
 use Rattle.qm_read.proofs.FirstFaults.{first_fault}
 use Rattle.qm_read.proofs.Holds.{spelled}
@@ -33,22 +33,25 @@ first-fault text f h = reading-faulty (tokens_of text) (length text) f h
 pub value-clean : (text : List ℕ) (v : Json) → reading_of text ≡ Ok v → IsClean v
 value-clean text v e = spelled-clean text v (value-spelled text v e)
 
--- want of memory is no fault of a text
+-- a fault lies in its text, and want of memory is none
+pub read-within : (text : List ℕ) (f : JsonFault) → reading_of text ≡ Err f → IsWithin (length text) f
+read-within text f e = fault-within text f (fault-first text f e)
+
 pub read-told : (text : List ℕ) → reading_of text ≢ Err Memory
-read-told text e = fault-told text Memory (fault-first text Memory e) refl
+read-told text e = read-within text Memory e
 
 -- the same of an answer that is what the text is read as, unless memory was wanting
 abbrev Reads : List ℕ → Result Json JsonFault → Type 0
 Reads text r = r ≢ Err Memory → r ≡ reading_of text
 
-pub result-spelled : (text : List ℕ) (r : Result Json JsonFault) → Reads text r → IfOk r (Spells text)
-result-spelled text (Ok v) h = value-spelled text v (sym (h (λ e. cc)))
-result-spelled text (Err f) h = tt
+pub result_spelled : (text : List ℕ) (r : Result Json JsonFault) → Reads text r → IfOk r (Spells text)
+result_spelled text (Ok v) h = value-spelled text v (sym (h (λ e. cc)))
+result_spelled text (Err f) h = tt
 
-pub result-clean : (text : List ℕ) (r : Result Json JsonFault) → Reads text r → IfOk r IsClean
-result-clean text (Ok v) h = value-clean text v (sym (h (λ e. cc)))
-result-clean text (Err f) h = tt
+pub result_clean : (text : List ℕ) (r : Result Json JsonFault) → Reads text r → IfOk r IsClean
+result_clean text (Ok v) h = value-clean text v (sym (h (λ e. cc)))
+result_clean text (Err f) h = tt
 
-pub result-fault : (text : List ℕ) (r : Result Json JsonFault) → Reads text r → IfErr r (λ f. f ≢ Memory → HasFault text f)
-result-fault text (Ok v) h = tt
-result-fault text (Err f) h = λ known. fault-first text f (sym (h (λ e. known cc)))
+pub result_fault : (text : List ℕ) (r : Result Json JsonFault) → Reads text r → IfErr r (λ f. f ≢ Memory → HasFault text f)
+result_fault text (Ok v) h = tt
+result_fault text (Err f) h = λ known. fault-first text f (sym (h (λ e. known cc)))

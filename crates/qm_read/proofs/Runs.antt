@@ -1,7 +1,7 @@
 -- Tokens that are read in two parts.
 use Rattle.std.proofs.Common.{◌≡◌, List, [], ◌∷◌, ◌++◌, Result, Ok, Err, refl}
 use Rattle.qm_read.specs.declared.fault.JsonFault.{JsonFault}
-use Rattle.qm_read.specs.declared.token.Placed.{Placed}
+use Rattle.qm_read.specs.Tokens.{Placed}
 use Rattle.qm_read.specs.Stacks.{State}
 use Rattle.qm_read.specs.Faults.{run, on}
 

@@ -20,6 +20,3 @@ pub use reading::{
     each_value_is_clean, each_value_is_spelled, memory_is_no_fault, no_value_is_too_deep, read,
 };
 pub use taken::Taken;
-
-#[cfg(test)]
-mod tests;

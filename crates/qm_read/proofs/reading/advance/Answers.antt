@@ -1,11 +1,8 @@
-use Rattle.qm_read.proofs.Advancing.{none_taken, one_taken, one_refused}
+use Rattle.qm_read.proofs.Advancing.{none_taken, one_taken}
 use Rattle.qm_read.proofs.reading.advance.Goals as goal
 
 pub returns-in-None : goal.returns-in-None
-returns-in-None c = none_taken c.args.reader.now c.args.place c.args.text.now c.in-Ok.lexeme c.requires.some c.in-Ok.ensures c.in-None.is
+returns-in-None c = none_taken c.args.reader.now c.args.place c.args.text.now c.in_ok-token.field-0 c.requires.some c.in_ok-token.ensures.value c.in_ok-token.ensures.short c.in-None.is
 
-pub returns-in-Ok-push : goal.returns-in-Ok-push
-returns-in-Ok-push c = one_taken c.args.reader.now c.args.place c.args.text.now c.in-Ok.lexeme c.requires.some c.in-Ok.ensures c.in-Some.token c.push.new.self c.in-Some.is c.in-Ok-push.ensures
-
-pub returns-in-Err-push : goal.returns-in-Err-push
-returns-in-Err-push c = λ known. one_refused c.args.reader.now c.args.place c.args.text.now c.in-Ok.lexeme c.requires.some c.in-Ok.ensures c.in-Some.token c.in-Err-push.fault c.in-Some.is (c.in-Err-push.ensures known)
+pub returns-in_ok-push-in-Some : goal.returns-in_ok-push-in-Some
+returns-in_ok-push-in-Some c = one_taken c.args.reader.now c.push.new.self c.args.place c.args.text.now c.in_ok-token.field-0 c.requires.some c.in_ok-token.ensures.value c.in_ok-token.ensures.short c.in-Some.token c.in-Some.is c.in_ok-push-in-Some.ensures
