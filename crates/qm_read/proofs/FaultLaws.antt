@@ -57,16 +57,7 @@ module _ (before : List Placed) (s : State) (e : run begun before ≡ Ok s) wher
   misplaced_refused : (k : Token) (p : ℕ) → IsMisplaced before k p → step s k p ≡ Err (Expected p)
   misplaced_refused (tokens.Bad fault) p m = absurd m
   misplaced_refused (tokens.Str name) p m = string_elsewhere name p (step s (tokens.Str name) p) refl (λ f h. string_refused s name p f h) m
-  misplaced_refused tokens.Null p m = elsewhere tokens.Null p _ refl (refuses s tokens.Null p tt) m
-  misplaced_refused (tokens.Bool b) p m = elsewhere (tokens.Bool b) p _ refl (refuses s (tokens.Bool b) p tt) m
-  misplaced_refused (tokens.Int n) p m = elsewhere (tokens.Int n) p _ refl (refuses s (tokens.Int n) p tt) m
-  misplaced_refused (tokens.Num text) p m = elsewhere (tokens.Num text) p _ refl (refuses s (tokens.Num text) p tt) m
-  misplaced_refused tokens.OpenArray p m = elsewhere tokens.OpenArray p _ refl (refuses s tokens.OpenArray p tt) m
-  misplaced_refused tokens.OpenObject p m = elsewhere tokens.OpenObject p _ refl (refuses s tokens.OpenObject p tt) m
-  misplaced_refused tokens.CloseArray p m = elsewhere tokens.CloseArray p _ refl (refuses s tokens.CloseArray p tt) m
-  misplaced_refused tokens.CloseObject p m = elsewhere tokens.CloseObject p _ refl (refuses s tokens.CloseObject p tt) m
-  misplaced_refused tokens.Comma p m = elsewhere tokens.Comma p _ refl (refuses s tokens.Comma p tt) m
-  misplaced_refused tokens.Colon p m = elsewhere tokens.Colon p _ refl (refuses s tokens.Colon p tt) m
+  misplaced_refused k p m = elsewhere k p _ refl (refuses s k p tt) m
 
   -- the name is refused, and another is taken
   twice_refused : (name other : List ℕ) (p : ℕ) (r : Result State JsonFault) → step s (tokens.Str name) p ≡ r → (BeginsValue (before ++ at (tokens.Str name) p ∷ []) → ⊥) → BeginsValue (before ++ at (tokens.Str other) p ∷ []) → r ≡ Err (Duplicate p)

@@ -55,16 +55,7 @@ module _ (before rest : List Placed) (s : State) (n : ℕ) (e : run begun before
   step_fault : (k : Token) (p : ℕ) (f : JsonFault) → step s k p ≡ Err f → FirstFault (before ++ at k p ∷ rest) n f
   step_fault (tokens.Bad g) p f h = let same : g ≡ f = cc in subst (FirstFault (before ++ at (tokens.Bad g) p ∷ rest) n) same (wrong before rest g p (taken_begins before s e))
   step_fault (tokens.Str name) p f h = string_fault name p f h (string_refused s name p f h)
-  step_fault tokens.Null p f h = elsewhere tokens.Null p f h (refuses s tokens.Null p tt) (here tokens.Null p f h)
-  step_fault (tokens.Bool b) p f h = elsewhere (tokens.Bool b) p f h (refuses s (tokens.Bool b) p tt) (here (tokens.Bool b) p f h)
-  step_fault (tokens.Int i) p f h = elsewhere (tokens.Int i) p f h (refuses s (tokens.Int i) p tt) (here (tokens.Int i) p f h)
-  step_fault (tokens.Num text) p f h = elsewhere (tokens.Num text) p f h (refuses s (tokens.Num text) p tt) (here (tokens.Num text) p f h)
-  step_fault tokens.OpenArray p f h = elsewhere tokens.OpenArray p f h (refuses s tokens.OpenArray p tt) (here tokens.OpenArray p f h)
-  step_fault tokens.OpenObject p f h = elsewhere tokens.OpenObject p f h (refuses s tokens.OpenObject p tt) (here tokens.OpenObject p f h)
-  step_fault tokens.CloseArray p f h = elsewhere tokens.CloseArray p f h (refuses s tokens.CloseArray p tt) (here tokens.CloseArray p f h)
-  step_fault tokens.CloseObject p f h = elsewhere tokens.CloseObject p f h (refuses s tokens.CloseObject p tt) (here tokens.CloseObject p f h)
-  step_fault tokens.Comma p f h = elsewhere tokens.Comma p f h (refuses s tokens.Comma p tt) (here tokens.Comma p f h)
-  step_fault tokens.Colon p f h = elsewhere tokens.Colon p f h (refuses s tokens.Colon p tt) (here tokens.Colon p f h)
+  step_fault k p f h = elsewhere k p f h (refuses s k p tt) (here k p f h)
 
 at_end : (ts : List Placed) (s : State) (n : ℕ) (f : JsonFault) → run begun ts ≡ Ok s → whole s.stack n ≡ Err f → FirstFault ts n f
 at_end ts s n f e h =

@@ -17,20 +17,11 @@ use Rattle.qm_json.specs.declared.value.Member.{Member}
 use Rattle.qm_json.specs.Members.{has_name}
 use Rattle.qm_read.specs.Names.{is_named, AddsName, AreNamesOf}
 
-pub list_any-map : {X Y : Type 0} (f : X → Y) (p : Y → Bool) (xs : List X) → list_any p (map f xs) ≡ list_any (λ x. p (f x)) xs
-list_any-map f p [] = refl
-list_any-map f p (x ∷ xs) = ap (λ b. p (f x) || b) (list_any-map f p xs)
-
 same-bytes : (a b : List ℕ) → bytes_eq a b ≡ true → a ≡ b
 same-bytes a b e = (bytes_eq-Decides a b).0 e
 
 bytes_eq-sym : (a b : List ℕ) → bytes_eq a b ≡ bytes_eq b a
 bytes_eq-sym a b = one_answer (bytes_eq a b) (bytes_eq b a) (bytes_eq-Decides a b) (λ e. sym ((bytes_eq-Decides b a).0 e), λ e. (bytes_eq-Decides b a).1 (sym e))
-
-either : (b c : Bool) → (c ≡ true → b ≡ true) → b ≡ (b || c)
-either true c h = refl
-either false true h = h refl
-either false false h = refl
 
 last_of : (b c : Bool) → (b || (c || false)) ≡ (b || c)
 last_of true c = refl

@@ -8,7 +8,7 @@ use Rattle.qm_json.proofs.NestingLaws.{depth-Null, depth-Bool, depth-Int, depth-
 use Rattle.qm_read.specs.Tokens.{Placed}
 use Rattle.qm_read.specs.Faults.{reading_of}
 use Rattle.qm_read.specs.Spelling.{SpellsValue, null, bool, int, num, string, no_items, array, no_members, object, SpellsItems, item, more_items, SpellsMembers, member, more_members}
-use Rattle.qm_read.proofs.Results.{value-spelled}
+use Rattle.qm_read.proofs.Results.{value_spelled}
 
 mutual
   nested : {d : ℕ} {ts : List Placed} {v : Json} → SpellsValue d ts v → depth v ≤ d
@@ -31,5 +31,5 @@ mutual
   nested_members {d = d} (more_members {members = members} {v = v} name o p q ms fresh s) =
       deepest-more depth_member members (record { name = name; value = v }) d (nested_members ms) (omega (arith, depth_member-is (record { name = name; value = v }), nested s))
 
-pub value-nested : (text : List ℕ) (v : Json) → reading_of text ≡ Ok v → depth v ≤ MAX_DEPTH
-value-nested text v e = nested (value-spelled text v e)
+pub value_nested : (text : List ℕ) (v : Json) → reading_of text ≡ Ok v → depth v ≤ MAX_DEPTH
+value_nested text v e = nested (value_spelled text v e)

@@ -35,7 +35,7 @@ use Rattle.qm_json.proofs.Inductions.{Inductive, every-Json}
 use Rattle.qm_read.specs.Texts.{Spells}
 use Rattle.qm_read.proofs.NumberBytes.{literal-run}
 use Rattle.qm_read.proofs.PrintedLists.{On, IsRead, array-leads, object-leads}
-use Rattle.qm_read.proofs.Results.{value-spelled}
+use Rattle.qm_read.proofs.Results.{value_spelled}
 
 -- the literal of a whole number, and any other literal
 int-token : (n : ℤ) (place : ℕ) → is_in_whole_range n ≡ true → number_token place (signed_decimal n) ≡ tokens.Int n
@@ -87,13 +87,13 @@ module _ (n : ℕ) (answer : Result Json JsonFault) where
         (object-leads n answer next outer rest d members e hs parts.1 parts.0 (omega (arith, deep, depth-Obj members)) t room leads);
   }
 
-pub printed-value : (v : Json) → IsClean v → depth v ≤ MAX_DEPTH → reading_of (printed v) ≡ Ok v
+pub printed_value : (v : Json) → IsClean v → depth v ≤ MAX_DEPTH → reading_of (printed v) ≡ Ok v
 unfolding reading_of tokens_of
-printed-value v clean deep =
+printed_value v clean deep =
     let n : ℕ = length (printed v) in
     ap (λ (l : List ℕ). read_from n (Ok v) begun 0 l) (sym (append-nil (printed v)))
     ∙ every-Json (IsRead n (Ok v)) (reads-each n (Ok v)) v clean MAX_DEPTH deep Top [] Value [] refl (omega arith) refl (λ place. refl) 0
 
 -- the printed text of a clean value, nested no deeper than texts may be, spells the value
-pub printed-spells : (v : Json) → IsClean v → depth v ≤ MAX_DEPTH → Spells (printed v) v
-printed-spells v clean deep = value-spelled (printed v) v (printed-value v clean deep)
+pub printed_spells : (v : Json) → IsClean v → depth v ≤ MAX_DEPTH → Spells (printed v) v
+printed_spells v clean deep = value_spelled (printed v) v (printed_value v clean deep)

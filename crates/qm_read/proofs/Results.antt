@@ -13,45 +13,45 @@ use Rattle.qm_read.proofs.FaultLaws.{reading-faulty}
 use Rattle.qm_read.proofs.FirstFaults.{first_fault}
 use Rattle.qm_read.proofs.Holds.{spelled}
 
-pub value-spelled : (text : List ℕ) (v : Json) → reading_of text ≡ Ok v → Spells text v
+pub value_spelled : (text : List ℕ) (v : Json) → reading_of text ≡ Ok v → Spells text v
 unfolding reading_of
-value-spelled text v e = spelled (tokens_of text) v (length text) e
+value_spelled text v e = spelled (tokens_of text) v (length text) e
 
-pub spelled-value : (text : List ℕ) (v : Json) → Spells text v → reading_of text ≡ Ok v
+pub spelled_value : (text : List ℕ) (v : Json) → Spells text v → reading_of text ≡ Ok v
 unfolding reading_of
-spelled-value text v s = reading-spelled (tokens_of text) v (length text) s
+spelled_value text v s = reading-spelled (tokens_of text) v (length text) s
 
-pub fault-first : (text : List ℕ) (f : JsonFault) → reading_of text ≡ Err f → HasFault text f
+pub fault_first : (text : List ℕ) (f : JsonFault) → reading_of text ≡ Err f → HasFault text f
 unfolding reading_of
-fault-first text f e = first_fault (tokens_of text) (length text) f e
+fault_first text f e = first_fault (tokens_of text) (length text) f e
 
-pub first-fault : (text : List ℕ) (f : JsonFault) → HasFault text f → reading_of text ≡ Err f
+pub first_fault_of : (text : List ℕ) (f : JsonFault) → HasFault text f → reading_of text ≡ Err f
 unfolding reading_of
-first-fault text f h = reading-faulty (tokens_of text) (length text) f h
+first_fault_of text f h = reading-faulty (tokens_of text) (length text) f h
 
 -- what is read is clean
-pub value-clean : (text : List ℕ) (v : Json) → reading_of text ≡ Ok v → IsClean v
-value-clean text v e = spelled-clean text v (value-spelled text v e)
+pub value_clean : (text : List ℕ) (v : Json) → reading_of text ≡ Ok v → IsClean v
+value_clean text v e = spelled-clean text v (value_spelled text v e)
 
 -- a fault lies in its text, and want of memory is none
-pub read-within : (text : List ℕ) (f : JsonFault) → reading_of text ≡ Err f → IsWithin (length text) f
-read-within text f e = fault-within text f (fault-first text f e)
+pub read_within : (text : List ℕ) (f : JsonFault) → reading_of text ≡ Err f → IsWithin (length text) f
+read_within text f e = fault-within text f (fault_first text f e)
 
-pub read-told : (text : List ℕ) → reading_of text ≢ Err Memory
-read-told text e = read-within text Memory e
+pub read_told : (text : List ℕ) → reading_of text ≢ Err Memory
+read_told text e = read_within text Memory e
 
 -- the same of an answer that is what the text is read as, unless memory was wanting
 abbrev Reads : List ℕ → Result Json JsonFault → Type 0
 Reads text r = r ≢ Err Memory → r ≡ reading_of text
 
 pub result_spelled : (text : List ℕ) (r : Result Json JsonFault) → Reads text r → IfOk r (Spells text)
-result_spelled text (Ok v) h = value-spelled text v (sym (h (λ e. cc)))
+result_spelled text (Ok v) h = value_spelled text v (sym (h (λ e. cc)))
 result_spelled text (Err f) h = tt
 
 pub result_clean : (text : List ℕ) (r : Result Json JsonFault) → Reads text r → IfOk r IsClean
-result_clean text (Ok v) h = value-clean text v (sym (h (λ e. cc)))
+result_clean text (Ok v) h = value_clean text v (sym (h (λ e. cc)))
 result_clean text (Err f) h = tt
 
 pub result_fault : (text : List ℕ) (r : Result Json JsonFault) → Reads text r → IfErr r (λ f. f ≢ Memory → HasFault text f)
 result_fault text (Ok v) h = tt
-result_fault text (Err f) h = λ known. fault-first text f (sym (h (λ e. known cc)))
+result_fault text (Err f) h = λ known. fault_first text f (sym (h (λ e. known cc)))

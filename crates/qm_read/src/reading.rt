@@ -4,7 +4,7 @@ ghost use Rattle.qm_json.specs.Nesting.{depth};
 ghost use Rattle.qm_json.specs.Printing.{printed};
 ghost use Rattle.qm_read.specs.Faults.{reading_of};
 ghost use Rattle.qm_read.specs.Progress.{Advances, reading_from};
-ghost use Rattle.qm_read.specs.Texts.{HasFault, Spells};
+ghost use Rattle.qm_read.specs.Texts.{HasFault, IsWithin, Spells};
 
 use crate::JsonFault;
 use crate::lexer::lexeme;
@@ -56,6 +56,7 @@ pub fn read(alloc: Global, text: &[u8]) -> Result<Json, JsonFault>
 }
 
 /// A text is read as a value exactly where it spells it.
+#[tactic(auto, using(crate::proofs::Results::value_spelled, crate::proofs::Results::spelled_value))]
 pub fn each_value_is_spelled()
     ensures { (text : List ℕ) (value : Json) →
         (reading_of text ≡ Ok value) ↔ Spells text value }
@@ -63,34 +64,47 @@ pub fn each_value_is_spelled()
 
 /// A text is refused with a fault exactly where that is its first fault: what stands before it
 /// begins a value, and with it nothing does.
+#[tactic(auto, using(crate::proofs::Results::fault_first, crate::proofs::Results::first_fault_of))]
 pub fn each_fault_is_the_first()
     ensures { (text : List ℕ) (fault : JsonFault) →
         (reading_of text ≡ Err fault) ↔ HasFault text fault }
 {}
 
 /// What a text is read as is clean.
+#[tactic(auto, using(crate::proofs::Results::value_clean))]
 pub fn each_value_is_clean()
     ensures { (text : List ℕ) (value : Json) → reading_of text ≡ Ok value → IsClean value }
 {}
 
+/// A fault lies in its text, or at the end of it.
+#[tactic(auto, using(crate::proofs::Results::read_within))]
+pub fn each_fault_is_within_its_text()
+    ensures { (text : List ℕ) (fault : JsonFault) → reading_of text ≡ Err fault →
+        IsWithin (length text) fault }
+{}
+
 /// Want of memory is no fault of a text.
+#[tactic(auto, using(crate::proofs::Results::read_told))]
 pub fn memory_is_no_fault()
     ensures { (text : List ℕ) → reading_of text ≢ Err JsonFault.Memory }
 {}
 
 /// What a text is read as is nested at most 128 deep (RFC 8259, section 9).
+#[tactic(auto, using(crate::proofs::Nested::value_nested))]
 pub fn no_value_is_too_deep()
     ensures { (text : List ℕ) (value : Json) → reading_of text ≡ Ok value →
         depth value ≤ 128 }
 {}
 
 /// The printed text of a clean value, nested at most 128 deep, spells the value.
+#[tactic(auto, using(crate::proofs::PrintedValues::printed_spells))]
 pub fn each_printed_value_is_spelled()
     ensures { (value : Json) → IsClean value → depth value ≤ 128 →
         Spells (printed value) value }
 {}
 
 /// The printed text of a clean value, nested at most 128 deep, is read as the value.
+#[tactic(auto, using(crate::proofs::PrintedValues::printed_value))]
 pub fn each_printed_value_is_read()
     ensures { (value : Json) → IsClean value → depth value ≤ 128 →
         reading_of (printed value) ≡ Ok value }
