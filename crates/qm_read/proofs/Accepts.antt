@@ -28,13 +28,9 @@ may_open : (d : ℕ) (stack : List Open) → Room (suc d) stack → nat_lt (leng
 may_open d stack h = grind (arith, nat_tests, h)
 
 pub not_name : (e : Expect) → takes_value e ≡ true → takes_name e ≡ false
-not_name Value h = refl
-not_name ValueOrEnd h = refl
 not_name Name h = cc
 not_name NameOrEnd h = cc
-not_name Colon h = refl
-not_name CommaOrEnd h = refl
-not_name End h = refl
+not_name _ h = refl
 
 pub opens_array : (d : ℕ) (stack : List Open) (e : Expect) (p : ℕ) (rest : List Placed) → takes_value e ≡ true → Room (suc d) stack → run (going stack e) (at tokens.OpenArray p ∷ rest) ≡ run (going (Arr [] ∷ stack) ValueOrEnd) rest
 opens_array d stack e p rest t h = rw (t, may_open d stack h) refl

@@ -4,7 +4,6 @@ pub mod CleanTexts
 pub mod CleanTokens
 pub mod CleanValues
 pub mod FaultLaws
-pub mod FirstFaults
 pub mod Fresh
 pub mod Holds
 pub mod LiteralLemmas
@@ -12,13 +11,8 @@ pub mod NameLemmas
 pub mod Nested
 pub mod NumberBytes
 pub mod Pieces
-pub mod PlainStrings
-pub mod PrintedLists
+pub mod PrintedStrings
 pub mod PrintedValues
 pub mod Refusals
 pub mod Results
-pub mod Runs
-pub mod StringEscapes
 pub mod StringLemmas
-pub mod UnitEscapes
-pub mod WalkLaws

@@ -21,9 +21,8 @@ use Rattle.qm_read.specs.Strings.{takes_next, ends_string, string_length, text_o
 use Rattle.qm_read.specs.Tokens.{Placed, at, number_token, word_token, run_lexeme, string_lexeme, with_later, tokens_here, tokens_from}
 use Rattle.qm_read.specs.Walks.{walk}
 use Rattle.qm_read.proofs.NumberBytes.{IsRun}
-use Rattle.qm_read.proofs.StringEscapes.{points-inside, points-read}
-use Rattle.qm_read.proofs.UnitEscapes.{stays}
-use Rattle.qm_read.proofs.WalkLaws.{passed}
+use Rattle.qm_read.proofs.PrintedStrings.{points-inside, points-read, stays}
+use Rattle.qm_read.proofs.Advancing.{passed}
 
 -- no number or word goes on with the text
 abbrev pub ends_run : List ℕ → Bool

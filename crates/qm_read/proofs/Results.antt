@@ -9,8 +9,7 @@ use Rattle.qm_read.specs.Texts.{Spells, HasFault, IsWithin}
 use Rattle.qm_read.specs.Tokens.{tokens_of}
 use Rattle.qm_read.proofs.Accepts.{reading-spelled}
 use Rattle.qm_read.proofs.CleanValues.{spelled-clean, fault-within}
-use Rattle.qm_read.proofs.FaultLaws.{reading-faulty}
-use Rattle.qm_read.proofs.FirstFaults.{first_fault}
+use Rattle.qm_read.proofs.FaultLaws.{reading-faulty, first_fault}
 use Rattle.qm_read.proofs.Holds.{spelled}
 
 pub value_spelled : (text : List ℕ) (v : Json) → reading_of text ≡ Ok v → Spells text v
@@ -30,8 +29,8 @@ unfolding reading_of
 first_fault_of text f h = reading-faulty (tokens_of text) (length text) f h
 
 -- what is read is clean
-pub value_clean : (text : List ℕ) (v : Json) → reading_of text ≡ Ok v → IsClean v
-value_clean text v e = spelled-clean text v (value_spelled text v e)
+pub value-clean : (text : List ℕ) (v : Json) → reading_of text ≡ Ok v → IsClean v
+value-clean text v e = spelled-clean text v (value_spelled text v e)
 
 -- a fault lies in its text, and want of memory is none
 pub read_within : (text : List ℕ) (f : JsonFault) → reading_of text ≡ Err f → IsWithin (length text) f
@@ -49,7 +48,7 @@ result_spelled text (Ok v) h = value_spelled text v (sym (h (λ e. cc)))
 result_spelled text (Err f) h = tt
 
 pub result_clean : (text : List ℕ) (r : Result Json JsonFault) → Reads text r → IfOk r IsClean
-result_clean text (Ok v) h = value_clean text v (sym (h (λ e. cc)))
+result_clean text (Ok v) h = value-clean text v (sym (h (λ e. cc)))
 result_clean text (Err f) h = tt
 
 pub result_fault : (text : List ℕ) (r : Result Json JsonFault) → Reads text r → IfErr r (λ f. f ≢ Memory → HasFault text f)

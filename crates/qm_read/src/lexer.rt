@@ -147,7 +147,7 @@ fn string_lexeme(alloc: Global, quote: u8, rest: &[u8], place: u64) -> Result<Le
 }
 
 /// The first byte and so many after it.
-#[tactic(auto, using(crate::proofs::WalkLaws::front_taken))]
+#[tactic(auto, using(crate::proofs::Advancing::front_taken))]
 fn front(text: &[u8], more: usize) -> &[u8]
     requires { more < length text.now }
     ensures { result.now ≡ slice_index text.now 0 ∷ take more (drop 1 text.now) }

@@ -71,7 +71,6 @@ pub fn each_fault_is_the_first()
 {}
 
 /// What a text is read as is clean.
-#[tactic(auto, using(crate::proofs::Results::value_clean))]
 pub fn each_value_is_clean()
     ensures { (text : List ℕ) (value : Json) → reading_of text ≡ Ok value → IsClean value }
 {}

@@ -1,7 +1,7 @@
 use Rattle.std.proofs.Common.{◌∙◌, ◌+◌, ap, sym, Some, ℕ, List}
 use Rattle.qm_read.specs.declared.token.Lexeme.{Lexeme}
 use Rattle.qm_read.specs.declared.token.Token.TheVariants as tokens
-use Rattle.qm_read.proofs.PlainStrings.{plain_lexeme}
+use Rattle.qm_read.proofs.StringLemmas.{plain_lexeme}
 use Rattle.qm_read.proofs.lexer.string_lexeme.Goals as goal
 
 pub returns-then-rest-count-clause-value : goal.returns-then-rest-count-clause-value

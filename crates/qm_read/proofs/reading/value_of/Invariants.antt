@@ -1,7 +1,7 @@
 use Rattle.std.proofs.Common.{◌-◌, length}
 use Rattle.qm_read.specs.Faults.{reading_of}
 use Rattle.qm_read.specs.Progress.{reading_from}
-use Rattle.qm_read.proofs.WalkLaws.{IsLeft}
+use Rattle.qm_read.proofs.Advancing.{IsLeft}
 use Rattle.qm_read.proofs.reading.value_of.Given as goal
 
 -- what is left, from what was read, is the whole from the beginning

@@ -1,5 +1,4 @@
-use Rattle.qm_read.proofs.PlainStrings.{plain_taken}
-use Rattle.qm_read.proofs.StringLemmas.{part_taken}
+use Rattle.qm_read.proofs.StringLemmas.{plain_taken, part_taken}
 use Rattle.qm_read.proofs.strings.take_part.Goals as goal
 
 pub returns-then-count-gt0 : goal.returns-then-count-gt0

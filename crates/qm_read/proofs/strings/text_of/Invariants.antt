@@ -1,7 +1,7 @@
 use Rattle.std.proofs.Common.{◌+◌, ◌-◌, length}
 use Rattle.qm_read.specs.Progress.{decoded_from}
 use Rattle.qm_read.specs.Strings.{text_of}
-use Rattle.qm_read.proofs.WalkLaws.{IsLeft}
+use Rattle.qm_read.proofs.Advancing.{IsLeft}
 use Rattle.qm_read.proofs.strings.text_of.Given as goal
 
 -- what was decoded, followed by what the rest stands for, is what the whole stands for
