@@ -1,5 +1,6 @@
--- What the tokens of a text spell is clean.
-use Rattle.std.proofs.Common.{◌≡◌, ℕ, ◌≤◌, Bool, true, not, List, [], ◌∷◌, ◌++◌, length, refl, ap, ◌∙◌, arith}
+-- What the tokens of a text spell is clean and nested no deeper than they may be; where their first
+-- fault stands.
+use Rattle.std.proofs.Common.{◌≡◌, ℕ, ◌≤◌, Bool, true, not, List, [], ◌∷◌, ◌++◌, length, refl, ap, ◌∙◌, arith, map, Ok}
 use Rattle.qm_json.specs.Numbers.{is_literal, is_whole_literal}
 use Rattle.std.specs.List.{list_all}
 use Rattle.std.specs.Str.{is_utf8}
@@ -17,6 +18,8 @@ use Rattle.qm_read.specs.Viable.{FirstFault, wrong, misplaced, twice, short}
 use Rattle.qm_read.specs.Tokens.{Placed, at, tokens_of}
 use Rattle.qm_read.specs.Spelling.{SpellsValue, null, bool, int, num, string, no_items, array, no_members, object, SpellsItems, item, more_items, SpellsMembers, member, more_members}
 use Rattle.qm_read.proofs.CleanTokens.{AreSound, sound-front, sound-rest, tokens-sound}
+use Rattle.qm_json.specs.Nesting.{depth, depth_member, deepest}
+use Rattle.qm_json.proofs.NestingLaws.{depth-Null, depth-Bool, depth-Int, depth-Num, depth-Str, depth-Arr, depth-Obj, depth_member-is, deepest-more}
 
 clean-member : (name : List ℕ) (v : Json) → is_utf8 name ≡ true → is_clean v ≡ true → is_clean_member (record { name = name; value = v }) ≡ true
 clean-member name v h k = is_clean_member-is (record { name = name; value = v }) ∙ and_from (is_utf8 name) (is_clean v) h k
@@ -66,3 +69,24 @@ first-within ts n f (short us b m) h = omega arith
 -- the first fault of a text lies in it
 pub fault-within : (text : List ℕ) (f : JsonFault) → HasFault text f → IsWithin (length text) f
 fault-within text f h = first-within (tokens_of text) (length text) f h (tokens-sound text)
+
+mutual
+  pub nested : {d : ℕ} {ts : List Placed} {v : Json} → SpellsValue d ts v → depth v ≤ d
+  nested (null p) = omega (arith, depth-Null)
+  nested (bool b p) = omega (arith, depth-Bool b)
+  nested (int n p) = omega (arith, depth-Int n)
+  nested (num text p) = omega (arith, depth-Num text)
+  nested (string text p) = omega (arith, depth-Str text)
+  nested (no_items p q) = omega (arith, depth-Arr [])
+  nested (array {items = items} p q is) = omega (arith, depth-Arr items, nested_items is)
+  nested (no_members p q) = omega (arith, depth-Obj [])
+  nested (object {members = members} p q ms) = omega (arith, depth-Obj members, nested_members ms)
+
+  nested_items : {d : ℕ} {ts : List Placed} {items : List Json} → SpellsItems d ts items → deepest (map depth items) ≤ d
+  nested_items (item s) = omega (arith, nested s)
+  nested_items {d = d} (more_items {items = items} {v = v} p is s) = deepest-more depth items v d (nested_items is) (nested s)
+
+  nested_members : {d : ℕ} {ts : List Placed} {members : List Member} → SpellsMembers d ts members → deepest (map depth_member members) ≤ d
+  nested_members (member {v = v} name p q s) = omega (arith, depth_member-is (record { name = name; value = v }), nested s)
+  nested_members {d = d} (more_members {members = members} {v = v} name o p q ms fresh s) =
+      deepest-more depth_member members (record { name = name; value = v }) d (nested_members ms) (omega (arith, depth_member-is (record { name = name; value = v }), nested s))

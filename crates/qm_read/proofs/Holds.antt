@@ -17,7 +17,7 @@ use Rattle.qm_json.specs.Members.{has_name}
 use Rattle.qm_read.specs.Stacks.{State, begun, put, left}
 use Rattle.qm_read.specs.Steps.{step}
 use Rattle.qm_read.specs.Faults.{whole, run, on, ended, reading}
-use Rattle.qm_read.proofs.Fresh.{fresh, fresh_name}
+use Rattle.qm_read.proofs.Refusals.{fresh, fresh_name}
 use Rattle.qm_read.specs.Viable.{BeginsValue}
 use Rattle.qm_read.specs.Tokens.{Placed, at}
 use Rattle.qm_read.specs.Spelling.{SpellsValue, null, bool, int, num, string, no_items, array, no_members, object, SpellsItems, item, more_items, SpellsMembers, member, more_members}

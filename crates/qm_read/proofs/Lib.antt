@@ -1,14 +1,11 @@
 pub mod Accepts
 pub mod Advancing
-pub mod CleanTexts
 pub mod CleanTokens
 pub mod CleanValues
 pub mod FaultLaws
-pub mod Fresh
 pub mod Holds
 pub mod LiteralLemmas
 pub mod NameLemmas
-pub mod Nested
 pub mod NumberBytes
 pub mod Pieces
 pub mod PrintedStrings

@@ -1,14 +1,16 @@
 -- What a text is read as, by what it spells and by its first fault.
-use Rattle.std.proofs.Common.{◌≡◌, ◌≢◌, ℕ, List, length, Result, Ok, Err, IfOk, IfErr, sym}
+use Rattle.std.proofs.Common.{◌≡◌, ◌≢◌, ℕ, ◌≤◌, List, length, Result, Ok, Err, IfOk, IfErr, sym}
 use Rattle.qm_json.specs.Cleanness.{IsClean}
 use Rattle.qm_json.specs.declared.value.Json.{Json}
+use Rattle.qm_json.specs.Nesting.{depth}
+use Rattle.qm_frame.specs.declared.step.TheConstants.{MAX_DEPTH}
 use Rattle.qm_read.specs.declared.fault.JsonFault.{JsonFault}
 use Rattle.qm_read.specs.declared.fault.JsonFault.TheVariants.{Memory}
 use Rattle.qm_read.specs.Faults.{reading_of}
 use Rattle.qm_read.specs.Texts.{Spells, HasFault, IsWithin}
 use Rattle.qm_read.specs.Tokens.{tokens_of}
 use Rattle.qm_read.proofs.Accepts.{reading-spelled}
-use Rattle.qm_read.proofs.CleanValues.{spelled-clean, fault-within}
+use Rattle.qm_read.proofs.CleanValues.{nested, spelled-clean, fault-within}
 use Rattle.qm_read.proofs.FaultLaws.{reading-faulty, first_fault}
 use Rattle.qm_read.proofs.Holds.{spelled}
 
@@ -31,6 +33,10 @@ first_fault_of text f h = reading-faulty (tokens_of text) (length text) f h
 -- what is read is clean
 pub value-clean : (text : List ℕ) (v : Json) → reading_of text ≡ Ok v → IsClean v
 value-clean text v e = spelled-clean text v (value_spelled text v e)
+
+-- what is read is nested no deeper than the limit
+pub value_nested : (text : List ℕ) (v : Json) → reading_of text ≡ Ok v → depth v ≤ MAX_DEPTH
+value_nested text v e = nested (value_spelled text v e)
 
 -- a fault lies in its text, and want of memory is none
 pub read_within : (text : List ℕ) (f : JsonFault) → reading_of text ≡ Err f → IsWithin (length text) f

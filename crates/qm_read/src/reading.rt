@@ -89,7 +89,7 @@ pub fn memory_is_no_fault()
 {}
 
 /// What a text is read as is nested at most 128 deep (RFC 8259, section 9).
-#[tactic(auto, using(crate::proofs::Nested::value_nested))]
+#[tactic(auto, using(crate::proofs::Results::value_nested))]
 pub fn no_value_is_too_deep()
     ensures { (text : List ℕ) (value : Json) → reading_of text ≡ Ok value →
         depth value ≤ 128 }
