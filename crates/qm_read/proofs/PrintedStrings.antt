@@ -15,7 +15,7 @@ use Rattle.qm_read.specs.Strings.{takes_next, ends_string, part, followed_by, af
 use Rattle.std.specs.Str.{chars, encode_utf8_all, all_scalars}
 use Rattle.std.proofs.lemmas.Str.{encode_ascii, encodes-chars, scalars-chars}
 use Rattle.qm_json.proofs.PrintLaws.{code_points-IsUtf8}
-use Rattle.qm_read.proofs.StringLemmas.{character-ascii}
+use Rattle.qm_read.proofs.StringLemmas.{character_ascii}
 
 -- no byte ends a string in double quotes, and the last backslash took a byte
 abbrev pub stays : Bool → List ℕ → Bool
@@ -151,7 +151,7 @@ plain-reads : (c : ℕ) → 32 ≤ c → c < 127 → (c == 34) ≡ false → (c 
 plain-reads c h l e f = record {
   inside = λ more. passes c more (ordinary c h e f);
   reads = λ more whole next place.
-      ap (λ (r : Result Part JsonFault). after_part r (c ∷ more) (λ k. text_after k (place + 1) more)) (cond-false _ _ _ f ∙ character-ascii place c more (omega (arith, l)))
+      ap (λ (r : Result Part JsonFault). after_part r (c ∷ more) (λ k. text_after k (place + 1) more)) (cond-false _ _ _ f ∙ character_ascii place c more (omega (arith, l)))
       ∙ ap (followed_by (c ∷ [])) (next (place + 1))
       ∙ ap (λ (l : List ℕ). Ok (l ++ whole)) (sym (encode_ascii c (omega (arith, l))));
 }

@@ -28,8 +28,8 @@ ascii x h = is_utf8-from_IsUtf8 (x ∷ []) (IsUtf8-from_ascii (x ∷ []) (IsAsci
 alone : (x : ℕ) → x < 128 → continuation_len x ≡ 0
 alone x h = grind (arith, nat_tests, h)
 
-pub character-ascii : (place x : ℕ) (rest : List ℕ) → x < 128 → character place x rest ≡ Ok (Same 0)
-character-ascii place x rest h = rw (alone x h, ascii x h) refl
+pub character_ascii : (place x : ℕ) (rest : List ℕ) → x < 128 → character place x rest ≡ Ok (Same 0)
+character_ascii place x rest h = rw (alone x h, ascii x h) refl
 
 -- one part, and what follows it
 pub followed_by-twice : (text more : List ℕ) (r : Result (List ℕ) JsonFault) → followed_by text (followed_by more r) ≡ followed_by (text ++ more) r
@@ -92,7 +92,7 @@ one_more n = omega arith
 first_plain : (q p x : ℕ) (t : List ℕ) → is_plain q x ≡ true → text_after 0 p (x ∷ t) ≡ followed_by (x ∷ []) (text_after 0 (p + 1) t)
 first_plain q p x t h =
     ap (λ (b : Bool). after_part (cond b (escape p t) (character p x t)) (x ∷ t) (λ k. text_after k (p + 1) t)) (no_backslash q x h)
-    ∙ ap (λ (r : Result Part JsonFault). after_part r (x ∷ t) (λ k. text_after k (p + 1) t)) (character-ascii p x t (low q x h))
+    ∙ ap (λ (r : Result Part JsonFault). after_part r (x ∷ t) (λ k. text_after k (p + 1) t)) (character_ascii p x t (low q x h))
 
 -- bytes at the front that stand for themselves, and what follows them
 pub plain_front : (q p : ℕ) (xs : List ℕ) → text_after 0 p xs ≡ followed_by (take (prefix_len (is_plain q) xs) xs) (text_after 0 (p + prefix_len (is_plain q) xs) (drop (prefix_len (is_plain q) xs) xs))
@@ -109,12 +109,12 @@ plain_front q p (x ∷ xs) = at_test (is_plain q x) refl (plain_front q (p + 1) 
         ∙ followed_by-twice (x ∷ []) (take n xs) (text_after 0 (p + 1 + n) (drop n xs)))
 
 -- such bytes were appended
-pub plain_taken : (q : ℕ) (old new bytes : List ℕ) (place n : ℕ) → n ≡ prefix_len (is_plain q) bytes → 0 < n → n ≤ length bytes → new ≡ old ++ take n bytes → Advances decoded_from old place bytes (Ok n) new
-plain_taken q old new bytes place n e some within m = (
+pub plain_taken : (old new bytes : List ℕ) (place n : ℕ) → n ≡ prefix_len (is_plain 92) bytes → 0 < n → n ≤ length bytes → new ≡ old ++ take n bytes → Advances decoded_from old place bytes (Ok n) new
+plain_taken old new bytes place n e some within m = (
   some,
   within,
-  ap (followed_by old) (plain_front q place bytes)
-      ∙ followed_by-twice old (take (prefix_len (is_plain q) bytes) bytes) (text_after 0 (place + prefix_len (is_plain q) bytes) (drop (prefix_len (is_plain q) bytes) bytes))
+  ap (followed_by old) (plain_front 92 place bytes)
+      ∙ followed_by-twice old (take (prefix_len (is_plain 92) bytes) bytes) (text_after 0 (place + prefix_len (is_plain 92) bytes) (drop (prefix_len (is_plain 92) bytes) bytes))
       ∙ rw (← e, m) refl,
 )
 

@@ -15,6 +15,7 @@ use qm_json::Json;
 use std::alloc::Global;
 
 /// Takes the lexeme at the front of these bytes, and answers its length.
+#[tactic(auto, using(crate::proofs::Advancing::none_taken, crate::proofs::Advancing::one_taken))]
 fn advance(alloc: Global, reader: &mut Reader, text: &[u8], place: u64) -> Result<usize, JsonFault>
     requires some { 0 < length text.now }
     requires within { place + length text.now < 2 ^ 64 }
@@ -31,6 +32,7 @@ fn advance(alloc: Global, reader: &mut Reader, text: &[u8], place: u64) -> Resul
 }
 
 /// The value of a text or its first fault, by the lexemes of the text from the left.
+#[tactic(auto, using(crate::proofs::Advancing::from_begin))]
 fn value_of(alloc: Global, text: &[u8]) -> Result<Json, JsonFault>
     ensures { result ≢ Err JsonFault.Memory → result ≡ reading_of text.now }
 {

@@ -227,6 +227,7 @@ fn is_utf8(bytes: &[u8]) -> bool
 }
 
 /// The part that is the character at the front.
+#[tactic(auto, using(crate::proofs::StringLemmas::character_ascii))]
 fn character(bytes: &[u8], place: u64) -> Result<Part, JsonFault>
     requires { 0 < length bytes.now }
     ensures value { result ≡ strings.character place (slice_index bytes.now 0) (drop 1 bytes.now) }
@@ -282,6 +283,7 @@ fn length_after_first(part: Part) -> usize
 
 /// Appends what the first of these bytes stand for, and answers how many they are: bytes that stand
 /// for themselves are taken as a run, any other part alone.
+#[tactic(auto, using(crate::proofs::StringLemmas::plain_taken, crate::proofs::StringLemmas::part_taken))]
 fn take_part(text: &mut Text, bytes: &[u8], place: u64) -> Result<usize, JsonFault>
     requires { 0 < length bytes.now }
     ensures { Advances decoded_from text.old place bytes.now result text.new }
@@ -297,6 +299,7 @@ fn take_part(text: &mut Text, bytes: &[u8], place: u64) -> Result<usize, JsonFau
 }
 
 /// What the bytes of a string stand for, whose quote stands at the start.
+#[tactic(auto, using(crate::proofs::StringLemmas::no_parts))]
 pub fn text_of(alloc: Global, raw: &[u8], start: u64) -> Result<Text, JsonFault>
     requires { start + 1 + length raw.now < 2 ^ 64 }
     ensures { result ≢ Err JsonFault.Memory → result ≡ strings.text_of start raw.now }
