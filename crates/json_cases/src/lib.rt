@@ -1,4 +1,4 @@
-//! Cases of texts, values and framing, over public calls alone.
+//! Cases of texts, values, framing and reading, over public calls alone.
 #![tactic(auto)]
 
 #[cfg(test)]
@@ -7,5 +7,9 @@ mod base;
 mod framing;
 #[cfg(test)]
 mod printing;
+#[cfg(test)]
+mod reading;
+#[cfg(test)]
+mod reading_faults;
 #[cfg(test)]
 mod sinks;

@@ -1,7 +1,14 @@
 -- Tables of names.
 use Rattle.std.proofs.Common.{◌≡◌, ℕ, Bool, true, false, ◌||◌, List, [], ◌∷◌, ◌++◌, map, Some, Result, Ok, Err, IfOk, OnOk, refl, ap, sym, ◌∙◌}
 use Rattle.std.specs.Bool.{one_answer}
+use Rattle.std.specs.BTreeSet.{insert_key}
+use Rattle.std.specs.Cmp.Lexicographic.{slice_cmp}
+use Rattle.std.specs.Ordering.{is_eq, nat_cmp, match_ordering}
+use Rattle.std.specs.declared.cmp.Ordering.{Ordering}
+use Rattle.std.specs.declared.cmp.Ordering.TheVariants.{Less, Equal, Greater}
+use Rattle.std.proofs.lemmas.Map.Text.{is_eq-slice_cmp}
 use Rattle.std.specs.List.{list_any}
+use Rattle.std.proofs.Math.Bool.{or_assoc, or_comm}
 use Rattle.std.specs.Prelude.{if◌then◌else◌}
 use Rattle.std.specs.Result.{is_ok}
 use Rattle.std.specs.Str.{bytes_eq}
@@ -11,46 +18,41 @@ use Rattle.qm_json.specs.declared.value.Member.{Member}
 use Rattle.qm_json.specs.Members.{has_name}
 use Rattle.qm_read.specs.Names.{is_named, AddsName, AreNamesOf}
 
-pub list_any-map : {X Y : Type 0} (f : X → Y) (p : Y → Bool) (xs : List X) → list_any p (map f xs) ≡ list_any (λ x. p (f x)) xs
-list_any-map f p [] = refl
-list_any-map f p (x ∷ xs) = ap (λ b. p (f x) || b) (list_any-map f p xs)
-
 same-bytes : (a b : List ℕ) → bytes_eq a b ≡ true → a ≡ b
 same-bytes a b e = (bytes_eq-Decides a b).0 e
 
 bytes_eq-sym : (a b : List ℕ) → bytes_eq a b ≡ bytes_eq b a
 bytes_eq-sym a b = one_answer (bytes_eq a b) (bytes_eq b a) (bytes_eq-Decides a b) (λ e. sym ((bytes_eq-Decides b a).0 e), λ e. (bytes_eq-Decides b a).1 (sym e))
 
-either : (b c : Bool) → (c ≡ true → b ≡ true) → b ≡ (b || c)
-either true c h = refl
-either false true h = h refl
-either false false h = refl
-
 last_of : (b c : Bool) → (b || (c || false)) ≡ (b || c)
-last_of true c = refl
-last_of false true = refl
-last_of false false = refl
+last_of b c = ap (λ t. b || t) (or_comm c false)
+
+same_or : (k x r : Bool) → k ≡ x → (x || r) ≡ ((x || r) || k)
+same_or k true r e = refl
+same_or k false true e = refl
+same_or k false false e = sym e
 
 module _ {K : Type 0} (f : K → List ℕ) where
-  abbrev same_name : K → K → Bool
-  same_name k j = bytes_eq (f k) (f j)
+  abbrev order : K → K → Ordering
+  order k j = slice_cmp nat_cmp (f k) (f j)
 
-  pub inserted : (b : Bool) (ks : List K) (k : K) → list_any (same_name k) ks ≡ b → AddsName (map f ks) (f k) (map f (if b then ks else ks ++ k ∷ []))
-  inserted true ks k e = λ other. either (is_named (map f ks) other) (bytes_eq other (f k)) (λ same. rw (same-bytes other (f k) same) (list_any-map f (bytes_eq (f k)) ks ∙ e))
-  inserted false ks k e = λ other. list_any-map f (bytes_eq other) (ks ++ k ∷ []) ∙ list_any-append (λ j. bytes_eq other (f j)) ks (k ∷ []) ∙ ap (λ b. b || (bytes_eq other (f k) || false)) (sym (list_any-map f (bytes_eq other) ks)) ∙ last_of (is_named (map f ks) other) (bytes_eq other (f k))
+  -- whether a name is there, by comparisons
+  pub found : (name : List ℕ) (ks : List K) → list_any (λ k. is_eq (slice_cmp nat_cmp name (f k))) ks ≡ is_named (map f ks) name
+  found name [] = refl
+  found name (k ∷ ks) = rw (is_eq-slice_cmp name (f k), found name ks) refl
+
+  placed : (other : List ℕ) (o : Ordering) (k x : K) (xs more : List K) → (o ≡ Equal → f k ≡ f x) → is_named (map f more) other ≡ (is_named (map f xs) other || bytes_eq other (f k)) → is_named (map f (match_ordering o (k ∷ x ∷ xs) (x ∷ xs) (x ∷ more))) other ≡ (is_named (map f (x ∷ xs)) other || bytes_eq other (f k))
+  placed other Less k x xs more same rest = or_comm (bytes_eq other (f k)) (is_named (map f (x ∷ xs)) other)
+  placed other Equal k x xs more same rest = same_or (bytes_eq other (f k)) (bytes_eq other (f x)) (is_named (map f xs) other) (ap (bytes_eq other) (same refl))
+  placed other Greater k x xs more same rest = ap (λ b. bytes_eq other (f x) || b) rest ∙ sym (or_assoc (bytes_eq other (f x)) (is_named (map f xs) other) (bytes_eq other (f k)))
+
+  inserted : (other : List ℕ) (ks : List K) (k : K) → is_named (map f (insert_key order ks k)) other ≡ (is_named (map f ks) other || bytes_eq other (f k))
+  inserted other [] k = or_comm (bytes_eq other (f k)) false
+  inserted other (x ∷ xs) k = placed other (order k x) k x xs (insert_key order xs k) (λ e. same-bytes (f k) (f x) (sym (is_eq-slice_cmp (f k) (f x)) ∙ ap is_eq e)) (inserted other xs k)
 
   -- a name was inserted, of names seen through f
-  pub added : (ks new : List K) (k : K) (old : List (List ℕ)) (name : List ℕ) → map f ks ≡ old → f k ≡ name → new ≡ (if list_any (same_name k) ks then ks else ks ++ k ∷ []) → AddsName old name (map f new)
-  added ks new k old name o n e = rw (← o, ← n, e) (inserted (list_any (same_name k) ks) ks k refl)
-
--- what is known of an answer that is Ok
-pub of_ok : {A E P : Type 0} (r : Result A E) → is_ok r ≡ true → IfOk r (λ x. P) → P
-of_ok (Ok x) e h = h
-of_ok (Err y) e h = cc
-
-pub on_ok : {P E : Type 0} (r : Result (Unit {0}) E) → (r ≡ Ok tt → P) → OnOk r P
-on_ok (Ok tt) h = h refl
-on_ok (Err y) h = tt
+  pub added : (ks new : List K) (k : K) (old : List (List ℕ)) (name : List ℕ) → map f ks ≡ old → f k ≡ name → new ≡ insert_key order ks k → AddsName old name (map f new)
+  added ks new k old name o n e = rw (← o, ← n, e) (λ other. inserted other ks k)
 
 -- a table of the members' names, and the name of one more
 pub names_more : (old new : List (List ℕ)) (members : List Member) (m : Member) → AreNamesOf (Some old) members → AddsName old m.name new → AreNamesOf (Some new) (members ++ m ∷ [])

@@ -1,15 +1,15 @@
 ghost use Rattle.std.specs.Prelude.{◌≡◌, [], OnOk};
 ghost use Rattle.qm_read.specs.Names.{is_named, AddsName};
 
-use indexmap::IndexSet;
 use qm_base::NoMemory;
 use std::alloc::Global;
+use std::collections::BTreeSet;
 use std::marker::Model;
 
 /// A table of names.
 #[derive(Drop)]
 pub struct NameTable {
-    names: IndexSet<Vec<u8>>,
+    names: BTreeSet<Vec<u8>>,
 }
 
 impl Model for NameTable {
@@ -26,7 +26,7 @@ impl NameTable {
         ensures { result ≡ [] }
     {
         NameTable {
-            names: IndexSet::new(alloc),
+            names: BTreeSet::new(alloc),
         }
     }
 
@@ -44,10 +44,9 @@ impl NameTable {
         let Ok(name) = Vec::from_slice(alloc, name) else {
             return Err(NoMemory);
         };
-        if self.names.insert(name).is_ok() {
-            Ok(())
-        } else {
-            Err(NoMemory)
+        match self.names.insert(name) {
+            Ok(_) => Ok(()),
+            Err(_) => Err(NoMemory),
         }
     }
 }
