@@ -19,6 +19,3 @@ pub use numerals::{are_digits, number};
 pub use reserved::ReservedList;
 pub use shared::Shared;
 pub use text::{NoMemory, Text};
-
-#[cfg(test)]
-mod tests;

@@ -8,7 +8,7 @@ use Rattle.qm_frame.specs.declared.step.FrameFault.TheVariants.{LexError}
 use Rattle.qm_frame.specs.Bytes.{is_space, is_closer, is_opener, is_reset}
 use Rattle.qm_frame.specs.Messages.{is_open, is_message, fault_of}
 use Rattle.qm_frame.specs.Framing.{NextFrame, Residue, Between, Inside, Skipping, skipped_to, after_recovery, closed_by, first_closed, front_of, framing_of, frames_of, residue_of}
-use Rattle.qm_frame.specs.Steps.{nothing, step}
+use Rattle.qm_frame.specs.Machine.{nothing, step}
 use Rattle.qm_frame.proofs.Positions.{position-more, position-below}
 
 abbrev Next : ℕ → ℕ → NextFrame → NextFrame → Type 0

@@ -1,9 +1,7 @@
 mod FramingLemmas
 mod Levels
 mod Opens
-mod OneMore
 mod PieceLemmas
 pub mod Positions
 mod Rows
-mod Unfolded
 mod Texts

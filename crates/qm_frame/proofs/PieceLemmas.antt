@@ -7,7 +7,7 @@ use Rattle.qm_frame.specs.declared.piece.LastPiece.{LastPiece}
 use Rattle.qm_frame.specs.declared.piece.LastPiece.TheVariants.{Whole, Number, Word, Str, Escape, Broken}
 use Rattle.qm_frame.specs.Bytes.{is_single, begins_number, in_number, is_letter, is_quote, is_barred}
 use Rattle.qm_frame.specs.Pieces.{run_to, one_later, quoted, piece, pieces}
-use Rattle.qm_frame.specs.Moves.{ends_in, begun, moved}
+use Rattle.qm_frame.specs.Machine.{ends_in, begun, moved}
 use Rattle.qm_frame.proofs.Positions.{position-more, position-below}
 
 abbrev Next : ℕ → ℕ → Front ℕ LastPiece → Front ℕ LastPiece → Type 0
