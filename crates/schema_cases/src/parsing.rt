@@ -1,142 +1,66 @@
 //! Texts of schemas, and the expressions or the first fault of each.
 
-use crate::{Tree, TreeFault, TreeList, TreeMember, TreeRule, parse};
 use qapi_lex::lex;
+use qapi_tree::{Tree, TreeFault, TreeList, TreeMember, TreeRule, parse};
 use std::process::Abort;
 use std::test::Fail;
 
 /// Rows of an answer, ` | ` and a text, in which `^` stands for a line's end.
 const TOKENS: &str = "\
-ok 0 |
 ok 0 | # a comment^# alone
-syntax 1  | {
 syntax 2  | {^'a'^^
 syntax 1  | { 'a': [
-syntax 1  | }
-syntax 1  | 'a'
-syntax 1  | [ 'a' ]
 syntax 2  | ^true
 syntax 1  | { 'struct': 'A', 'data': {} },
 syntax 1  | { 'a' 'b' }
-syntax 1  | { 'a': }
-syntax 1  | { 'a': : }
 syntax 1  | { 'a': 'b', }
-syntax 1  | { 'a': 'b' 'c': 'd' }
-syntax 1  | { , }
 syntax 1  | { true: 'a' }
 syntax 1  | { 'a': [ 'b', ] }
-syntax 1  | { 'a': [ 'b' 'c' ] }
 syntax 1  | { 'a': [ 'b' } }
-syntax 1  | { 'a': { 'b': true ] }
-duplicate-key 2 a | { 'a': true,^ 'a': false }
 duplicate-key 3 b | { 'x': true }^{ 'a': [ { 'b': '',^ 'c': '', 'b' } ] }
 duplicate-key 1 a | { 'x': true } { 'pragma': { 'a': true, 'a': true } }
 ";
 
 const KINDS: &str = "\
-syntax 1  | {}
 syntax 1  | { 'data': 'a' }
 syntax 2  | ^{ 'enum': 'A',^ 'struct': 'B' }
 ok 1 | { 'include': 'a.json' }
 unknown-key 1 if | { 'include': 'a.json', 'if': 'A' }
-wrong-shape 1 include | { 'include': [ 'a' ] }
 ok 1 | { 'pragma': { 'a': [ [ true ] ] } }
-unknown-key 1 data | { 'pragma': {}, 'data': {} }
-wrong-shape 1 pragma | { 'pragma': 'a' }
-ok 1 | { 'enum': 'A', 'data': [] }
 ok 1 | { 'enum': 'A', 'data': [ 'a' ], 'prefix': 'B', 'if': 'C', 'features': [ 'd' ] }
 missing-key 1 data | { 'enum': 'A' }
-unknown-key 1 base | { 'enum': 'A', 'base': 'B' }
-missing-key 1 data | { 'struct': 'A' }
-unknown-key 1 x | { 'struct': 'A', 'x': true }
-wrong-shape 1 data | { 'struct': 'A', 'data': [ 'b' ] }
 ok 1 | { 'struct': 'A', 'data': {}, 'base': 'B', 'if': 'C', 'features': [] }
-unknown-key 1 prefix | { 'struct': 'A', 'data': {}, 'prefix': 'B' }
 missing-key 1 base | { 'union': 'A' }
 missing-key 1 discriminator | { 'union': 'A', 'data': [], 'base': 'B' }
-missing-key 1 data | { 'union': 'A', 'base': {}, 'discriminator': 't' }
 ok 1 | { 'union': 'A', 'base': 'B', 'discriminator': 't', 'data': {}, 'if': 'C', 'features': [] }
-unknown-key 1 boxed | { 'union': 'A', 'boxed': true }
 ok 1 | { 'alternate': 'A', 'data': { 'a': 'str' }, 'if': 'C', 'features': [] }
-missing-key 1 data | { 'alternate': 'A' }
-unknown-key 1 base | { 'alternate': 'A', 'base': 'B' }
-ok 1 | { 'command': 'a' }
 ok 1 | { 'command': 'a', 'data': 'B', 'returns': [ 'C' ], 'boxed': true, 'gen': false }
 ok 1 | { 'command': 'a', 'allow-oob': true, 'allow-preconfig': true, 'coroutine': true }
 ok 1 | { 'command': 'a', 'success-response': false, 'if': 'C', 'features': [] }
-unknown-key 1 base | { 'command': 'a', 'base': 'B' }
 ok 1 | { 'event': 'A', 'data': { 'a': 'int' }, 'boxed': false, 'if': 'C', 'features': [] }
-unknown-key 1 returns | { 'event': 'A', 'returns': 'int' }
 unknown-key 3 x | { 'command': 'a' }\r^# \u{e9}\r^{ 'x': true,\r^ 'event': 'B', 'y': true }
-unknown-key 1 x | { 'command': true, 'x': 'y' } { 'a': true }
 wrong-shape 1 if | { 'if': true, 'command': true } { 'a': true }
 ";
 
 const SHAPES: &str = "\
-wrong-shape 1 enum | { 'data': [], 'enum': [ 'A' ] }
 ok 1 | { 'enum': 'A', 'data': [ 'a', { 'name': 'b', 'if': 'C', 'features': [ 'd' ] } ] }
-wrong-shape 1 data | { 'enum': 'A', 'data': 'a' }
-wrong-shape 1 data | { 'enum': 'A', 'data': {} }
-wrong-shape 1 data | { 'enum': 'A', 'data': [ true ] }
-wrong-shape 1 data | { 'enum': 'A', 'data': [ [ 'a' ] ] }
 wrong-shape 1 data | { 'enum': 'A', 'data': [ {} ] }
-wrong-shape 1 data | { 'enum': 'A', 'data': [ { 'name': [] } ] }
 wrong-shape 1 prefix | { 'enum': 'A', 'data': [], 'prefix': false }
-wrong-shape 1 struct | { 'struct': {}, 'data': {} }
 ok 1 | { 'struct': 'A', 'data': { 'a': 'b', '*c': [ 'd' ], 'if': 'e', 'data': 'f' } }
-ok 1 | { 'struct': 'A', 'data': { 'type': { 'type': [ 'f' ] } } }
 ok 1 | { 'struct': 'A', 'data': { '': { 'type': 'a', 'if': { 'not': 'B' }, 'features': [] } } }
-wrong-shape 1 data | { 'struct': 'A', 'data': 'a' }
-wrong-shape 1 data | { 'struct': 'A', 'data': { 'a': true } }
-wrong-shape 1 data | { 'struct': 'A', 'data': { 'a': [] } }
 wrong-shape 1 data | { 'struct': 'A', 'data': { 'a': [ 'b', 'c' ] } }
-wrong-shape 1 data | { 'struct': 'A', 'data': { 'a': [ [ 'b' ] ] } }
-wrong-shape 1 data | { 'struct': 'A', 'data': { 'a': {} } }
 wrong-shape 1 data | { 'struct': 'A', 'data': { 'a': { 'type': 'b', 'x': 'c' } } }
-wrong-shape 1 data | { 'struct': 'A', 'data': { 'a': { 'type': {} } } }
-wrong-shape 1 data | { 'struct': 'A', 'data': { 'a': { 'type': 'b', 'if': [] } } }
 wrong-shape 1 base | { 'struct': 'A', 'data': {}, 'base': {} }
-wrong-shape 1 union | { 'union': true, 'data': {}, 'discriminator': 'b', 'base': 'B' }
-ok 1 | { 'union': 'A', 'data': {}, 'discriminator': 'b', 'base': { 'b': 'C' } }
 ok 1 | { 'union': 'A', 'data': {}, 'discriminator': 'b', 'base': { '*d': { 'type': 'e' } } }
-wrong-shape 1 base | { 'union': 'A', 'data': {}, 'discriminator': 'b', 'base': [ 'B' ] }
-wrong-shape 1 base | { 'union': 'A', 'data': {}, 'discriminator': 'b', 'base': { 'b': true } }
-wrong-shape 1 discriminator | { 'union': 'A', 'data': {}, 'discriminator': {}, 'base': 'B' }
-ok 1 | { 'union': 'A', 'base': 'B', 'discriminator': 'b', 'data': { 'c': [ 'D' ], 'e': 'F' } }
-ok 1 | { 'union': 'A', 'base': 'B', 'discriminator': 'b', 'data': { 'e': { 'type': 'F' } } }
 ok 1 | { 'alternate': 'A', 'data': { 'e': { 'type': 'F', 'if': 'G' } } }
-wrong-shape 1 data | { 'union': 'A', 'base': 'B', 'discriminator': 'b', 'data': [] }
 wrong-shape 1 data | { 'alternate': 'A', 'data': { 'c': { 'type': 'D', 'features': [] } } }
-wrong-shape 1 data | { 'alternate': 'A', 'data': 'c' }
-wrong-shape 1 alternate | { 'alternate': [], 'data': {} }
-wrong-shape 1 command | { 'command': false }
 wrong-shape 1 data | { 'command': 'a', 'data': [ 'B' ] }
-wrong-shape 1 data | { 'command': 'a', 'data': { 'b': { 'x': 'C' } } }
-wrong-shape 1 returns | { 'command': 'a', 'returns': {} }
-wrong-shape 1 returns | { 'command': 'a', 'returns': [] }
 wrong-shape 1 returns | { 'command': 'a', 'returns': [ true ] }
-wrong-shape 1 boxed | { 'command': 'a', 'boxed': 'true' }
-wrong-shape 1 gen | { 'command': 'a', 'gen': [] }
-wrong-shape 1 allow-oob | { 'command': 'a', 'allow-oob': {} }
-wrong-shape 1 allow-preconfig | { 'command': 'a', 'allow-preconfig': 'a' }
 wrong-shape 1 coroutine | { 'command': 'a', 'coroutine': 'a' }
-wrong-shape 1 success-response | { 'command': 'a', 'success-response': 'a' }
-wrong-shape 1 event | { 'event': {} }
-wrong-shape 1 data | { 'event': 'A', 'data': false }
-wrong-shape 1 boxed | { 'event': 'A', 'boxed': '' }
 ok 1 | { 'event': 'A', 'features': [ 'b', { 'name': 'c' }, { 'if': 'D', 'name': 'e' } ] }
-wrong-shape 1 features | { 'event': 'A', 'features': 'b' }
-wrong-shape 1 features | { 'event': 'A', 'features': [ {} ] }
 wrong-shape 1 features | { 'event': 'A', 'features': [ { 'name': 'c', 'features': [] } ] }
-ok 1 | { 'event': 'A', 'if': { 'all': [] } }
 ok 1 | { 'event': 'A', 'if': { 'any': [ 'B', { 'not': { 'all': [ 'C', 'D' ] } } ] } }
-ok 1 | { 'event': 'A', 'if': { 'not': { 'not': 'B' } } }
-wrong-shape 1 if | { 'event': 'A', 'if': [ 'B' ] }
 wrong-shape 1 if | { 'event': 'A', 'if': {} }
-wrong-shape 1 if | { 'event': 'A', 'if': { 'all': 'B' } }
-wrong-shape 1 if | { 'event': 'A', 'if': { 'any': {} } }
-wrong-shape 1 if | { 'event': 'A', 'if': { 'not': [ 'B' ] } }
-wrong-shape 1 if | { 'event': 'A', 'if': { 'or': [ 'B' ] } }
 wrong-shape 1 if | { 'event': 'A', 'if': { 'all': [], 'any': [] } }
 wrong-shape 1 if | { 'event': 'A', 'if': { 'any': [ 'B', { 'not': { 'all': [ true ] } } ] } }
 ";
@@ -158,7 +82,7 @@ fn read(rt: &impl AllocGlobal, text: &[u8]) -> Result<Result<TreeList, TreeFault
 }
 
 /// How many expressions the text has, or its first fault.
-fn answer(rt: &impl AllocGlobal, text: &[u8]) -> Result<String, Fail> {
+pub fn answer(rt: &impl AllocGlobal, text: &[u8]) -> Result<String, Fail> {
     match read(rt, text)? {
         Ok(exprs) => Ok(format!(in rt.alloc(); "ok {}", exprs.as_slice().len())?),
         Err(fault) => {
@@ -241,49 +165,5 @@ fn members_stand_in_their_order(rt: HostRuntime) -> Result<(), Fail> {
     }
     let shown = b"2{data{b=ca[=d]}struct=E}5{gentcommand=x\\yif{any[=F{not=G}]}}";
     assert_eq!(rt; out.as_slice(), shown.as_slice());
-    Ok(())
-}
-
-/// Rows of an answer, and of a text by what stands before, the opener, what stands innermost, the
-/// closer, and what stands after.
-const NESTS: &str = "\
-ok 1 |{ 'pragma': { 'a': |[||]|} }
-ok 1 |{ 'pragma': { 'a': |[true,|[]|]|} }
-ok 1 |{ 'pragma': { 'a': |[|{}|,{'b':[]}]|} }
-ok 1 |{ 'event': 'A', 'if': |{'not':|'B'|}|}
-wrong-shape 1 data |{ 'struct': 'A', 'data': |[||]|}
-syntax 1  |{ 'struct': 'A', 'data': |[||]|]
-syntax 1  |{ 'struct': 'A', 'data': |[|||}
-syntax 1  |{ 'pragma': |{'a':|true|}|
-";
-
-fn repeat(text: &mut Vec<u8>, piece: &str) -> Result<(), Fail> {
-    for _ in 0..325_000 {
-        text.extend_from_slice(piece.as_bytes())?;
-    }
-    Ok(())
-}
-
-/// The text of a row's parts, in which the opener and the closer stand so many times.
-fn nested(rt: &impl AllocGlobal, parts: &[&str]) -> Result<Vec<u8>, Fail> {
-    let mut text = Vec::new(rt.alloc());
-    for (i, part) in parts.iter().enumerate() {
-        if i == 2 || i == 4 {
-            repeat(&mut text, part)?;
-        } else if i > 0 {
-            text.extend_from_slice(part.as_bytes())?;
-        }
-    }
-    Ok(text)
-}
-
-#[test]
-fn nesting_has_no_bound(rt: HostRuntime) -> Result<(), Fail> {
-    for row in NESTS.lines() {
-        let parts = row.split("|").collect::<Vec<_>>(rt.alloc())?;
-        let text = nested(&rt, parts.as_slice())?;
-        let given = format!(in rt.alloc(); "{} ", answer(&rt, text.as_slice())?)?;
-        assert!(rt; row.starts_with(given.as_str()));
-    }
     Ok(())
 }
