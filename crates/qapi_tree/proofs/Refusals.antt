@@ -1,7 +1,6 @@
 -- How a token is refused in a state: as one that may not stand there, or as a key that is there.
 use Rattle.std.proofs.Common.{◌≡◌, ℕ, ◌==◌, Bool, true, false, cond, ◌⊎◌, inl, inr, List, [], ◌∷◌, Result, Ok, Err, refl}
 use Rattle.qm_base.proofs.Fresh.{fresh, fresh_name}
-use Rattle.qapi_lex.specs.declared.token.TokenKind.{TokenKind}
 use Rattle.qapi_lex.specs.declared.token.TokenKind.TheVariants.{Mark, Flag, Str}
 use Rattle.qapi_tree.specs.declared.fault.TreeFault.{TreeFault}
 use Rattle.qapi_tree.specs.declared.fault.TreeRule.TheVariants.{DuplicateKey}
@@ -13,7 +12,7 @@ use Rattle.qapi_tree.specs.declared.tree.Expr.{Expr}
 use Rattle.qapi_tree.specs.declared.tree.Tree.TheVariants as trees
 use Rattle.qapi_tree.specs.declared.tree.TreeMember.{TreeMember}
 use Rattle.qapi_tree.specs.Faults.{fault, syntax_fault}
-use Rattle.qapi_tree.specs.Keys.{has_key}
+use Rattle.qapi_tree.specs.Spelling.{has_key}
 use Rattle.qapi_tree.specs.Reading.{whole}
 use Rattle.qapi_tree.specs.Stacks.{State, takes_value, takes_object, takes_key, ends_list, ends_object, put}
 use Rattle.qapi_tree.specs.Steps.{key_step, value_step, close_list, close_object, colon_step, comma_step, kind_step}

@@ -19,8 +19,8 @@ use Rattle.qapi_tree.specs.declared.tree.Tree.TheVariants.{rolls-Flag, rolls-Str
 use Rattle.qapi_tree.specs.declared.tree.Tree.TheOpen as layer
 use Rattle.qapi_tree.specs.declared.tree.Tree.TheFolds.{fold-TreeMember, fold-roll-Tree, fold-roll-TreeMember}
 use Rattle.qapi_tree.specs.declared.tree.TreeMember.{TreeMember}
-use Rattle.qapi_tree.specs.Asking.{Asks, values_have, has_needed_keys, member_fits, members_fit, list_fits, dict_fits}
-use Rattle.qapi_tree.specs.Keys.{has_key}
+use Rattle.qapi_tree.specs.Asking.{Asks, values_have, member_fits, members_fit, list_fits, dict_fits}
+use Rattle.qapi_tree.specs.Spelling.{has_key}
 use Rattle.qapi_tree.specs.Shapes.{key_in, is_needed, KeyAndShapes, rule_for, fits_rule, takes_text, takes_flag, takes_list, takes_dict, shape_layer, member_layer, has_shape}
 use Rattle.qapi_tree.specs.Table.{name, keys, rule_of}
 

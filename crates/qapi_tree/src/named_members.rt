@@ -1,5 +1,5 @@
 ghost use Rattle.std.specs.Prelude.{◌≡◌, [], ◌∷◌, ◌++◌, OnOk};
-ghost use Rattle.qapi_tree.specs.Keys.{has_key};
+ghost use Rattle.qapi_tree.specs.Spelling.{has_key};
 
 use crate::release::release;
 use crate::tree::{Tree, TreeMember};

@@ -205,7 +205,8 @@ impl Parser {
             return Err(self.syntax(line));
         }
         let top = Open::List(Items::new(self.alloc));
-        self.open(top, Expect::ValueOrEnd).map_err(|_error| self.memory())
+        self.open(top, Expect::ValueOrEnd)
+            .map_err(|_error| self.memory())
     }
 
     fn open_object(&mut self, line: u32) -> Result<(), TreeFault>
@@ -215,7 +216,8 @@ impl Parser {
             return Err(self.syntax(line));
         }
         let top = Open::Dict(NamedMembers::new(self.alloc), Text::new(self.alloc), line);
-        self.open(top, Expect::KeyOrEnd).map_err(|_error| self.memory())
+        self.open(top, Expect::KeyOrEnd)
+            .map_err(|_error| self.memory())
     }
 
     fn key(&mut self, key: Text, line: u32) -> Result<(), TreeFault>
@@ -247,7 +249,9 @@ impl Parser {
         self.expect = after_value(&outer);
         match mem::replace(&mut self.current, outer) {
             Open::List(items) => {
-                give(self.alloc, &mut self.current, Tree::List(items)).map_err(|_error| self.memory())
+                give(self.alloc, &mut self.current, Tree::List(items)).map_err(
+                    |_error| self.memory(),
+                )
             }
             open => {
                 release_open(open);
@@ -265,8 +269,9 @@ impl Parser {
         self.expect = after_value(&outer);
         match mem::replace(&mut self.current, outer) {
             Open::Dict(keys, _, begun) => {
-                give_object(self.alloc, &mut self.current, begun, keys.into_items())
-                    .map_err(|_error| self.memory())
+                give_object(self.alloc, &mut self.current, begun, keys.into_items()).map_err(
+                    |_error| self.memory(),
+                )
             }
             open => {
                 release_open(open);

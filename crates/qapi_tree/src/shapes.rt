@@ -3,7 +3,7 @@ ghost use Rattle.std.specs.Option.{option_copied};
 ghost use Rattle.std.specs.Str.{bytes_eq};
 ghost use Rattle.qapi_tree.specs.Shapes.{key_in, shape_in, is_needed as needed, rule_for as rule_of_key, takes_text as text_taken, takes_flag as flag_taken, has_shape};
 ghost use Rattle.qapi_tree.specs.Asking.{are_shaped, items_have, values_have, has_needed_keys as needed_keys, member_fits, members_fit, list_fits, dict_fits, Asks, count_of, items_count, values_count, left_in};
-ghost use Rattle.qapi_tree.specs.Keys.{has_key as has_key_of};
+ghost use Rattle.qapi_tree.specs.Spelling.{has_key as has_key_of};
 ghost use Rattle.qapi_tree.specs.Table.{name};
 
 use crate::table::{

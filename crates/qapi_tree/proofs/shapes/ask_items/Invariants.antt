@@ -1,5 +1,5 @@
-use Rattle.std.proofs.Common.{◌≡◌, ◌+◌, ◌≤◌, ◌&&◌, drop}
-use Rattle.qapi_tree.specs.Asking.{are_shaped, items_have, values_have, members_fit, items_count, values_count, left_in}
+use Rattle.std.proofs.Common.{◌≡◌, ◌+◌, ◌&&◌, drop}
+use Rattle.qapi_tree.specs.Asking.{are_shaped, items_have, items_count, left_in}
 use Rattle.qapi_tree.proofs.shapes.ask_items.Given as goal
 
 -- what is left to ask, with what is asked
