@@ -5,7 +5,6 @@ pub mod CleanValues
 pub mod FaultLaws
 pub mod Holds
 pub mod LiteralLemmas
-pub mod NameLemmas
 pub mod NumberBytes
 pub mod Pieces
 pub mod PrintedStrings

@@ -1,7 +1,6 @@
 //! Texts and their tokens with places, and texts with a first fault.
 
-use crate::{LexFault, TokenKind, lex};
-use std::process::Abort;
+use qapi_lex::{LexFault, TokenKind, lex};
 use std::test::Fail;
 
 /// A line for each token of the text: its line, its column, and how it is written, a string after
@@ -28,21 +27,10 @@ fn written(rt: &impl AllocGlobal, text: &[u8]) -> Result<Vec<u8>, Fail> {
 
 #[test]
 fn tokens_have_their_places(rt: HostRuntime) -> Result<(), Fail> {
-    let cases: [(&[u8], &str); 14] = [
-        (b"", ""),
-        (b" \t\r\n", ""),
-        (b"# a comment alone", ""),
+    let cases: [(&[u8], &str); 6] = [
         (b"#\xFF\x80\x00 'x' {\n", ""),
         (b"# one\r\n# two\r\n:", "3:1 :\n"),
-        (
-            b"{ } [ ] : ,",
-            "1:1 {\n1:3 }\n1:5 [\n1:7 ]\n1:9 :\n1:11 ,\n",
-        ),
-        (b"true", "1:1 true\n"),
-        (b"\n  false\n", "2:3 false\n"),
         (b"truefalse", "1:1 true\n1:5 false\n"),
-        (b"''", "1:1 =\n"),
-        (b"'a\\\\b'", "1:1 =a\\b\n"),
         (b"' ~\"#{'", "1:1 = ~\"#{\n"),
         (b"'\\\\''x'", "1:1 =\\\n1:5 =x\n"),
         (
@@ -59,27 +47,18 @@ fn tokens_have_their_places(rt: HostRuntime) -> Result<(), Fail> {
 
 #[test]
 fn the_first_fault_has_its_line(rt: HostRuntime) -> Result<(), Fail> {
-    let cases: [(&[u8], LexFault); 20] = [
+    let cases: [(&[u8], LexFault); 11] = [
         (b"{ 'a': \"b\" }", LexFault::BadByte(1)),
-        (b"null", LexFault::BadByte(1)),
         (b"\n\ntru", LexFault::BadByte(3)),
         (b"trues", LexFault::BadByte(1)),
-        (b"True", LexFault::BadByte(1)),
-        (b"7", LexFault::BadByte(1)),
         (b"\x0B", LexFault::BadByte(1)),
-        (b"\x80", LexFault::BadByte(1)),
         (b"'a\x7F'", LexFault::BadByte(1)),
-        (b"'a\xC3\xA9'", LexFault::BadByte(1)),
         (b"# x\n'a\tb'", LexFault::BadByte(2)),
-        (b"'a\r\n", LexFault::BadByte(1)),
         (b"'a\\n'", LexFault::BadEscape(1)),
-        (b"'a\\'", LexFault::BadEscape(1)),
         (b"\n'a\\\n'", LexFault::BadEscape(2)),
         (b"'\\", LexFault::BadEscape(1)),
-        (b"'", LexFault::Unclosed(1)),
         (b"{\n'a: 1 }\n'", LexFault::Unclosed(2)),
         (b"'a\\\\", LexFault::Unclosed(1)),
-        (b"'a\n\x80", LexFault::Unclosed(1)),
     ];
     for (text, fault) in cases {
         match lex(rt.alloc(), text) {

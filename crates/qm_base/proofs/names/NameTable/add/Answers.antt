@@ -1,6 +1,6 @@
-use Rattle.qm_read.proofs.NameLemmas.{added}
-use Rattle.qm_read.proofs.names.NameTable.add.Goals as goal
-use Rattle.qm_read.proofs.names.NameTable.add.Goals.{in-Ok-insert, in-Err}
+use Rattle.qm_base.proofs.NameLemmas.{added}
+use Rattle.qm_base.proofs.names.NameTable.add.Goals as goal
+use Rattle.qm_base.proofs.names.NameTable.add.Goals.{in-Ok-insert, in-Err}
 
 pub returns : goal.returns
 returns c = elim c.match-insert.branch [
