@@ -2,7 +2,7 @@
 
 use crate::playing::{answer, input};
 use qm_base::CallList;
-use qm_core::{BadInput, Cause, FrameWord, Input, JsonWord, Limits, Monitor};
+use qm_core::{BadInput, Cause, FrameWord, Input, Limits, Monitor, Offer};
 use qm_history::{HistoryFault, write_history};
 use qm_link::MemorySink;
 use std::alloc::Global;
