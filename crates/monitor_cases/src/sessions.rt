@@ -20,9 +20,11 @@ fn a_session_from_opening_to_end(rt: HostRuntime) -> Result<(), Fail> {
     let session = monitor.open(rt.alloc())?;
     answer(rt.alloc(), &mut monitor, input(rt.alloc(), "{}")?, 5)?;
     assert!(rt; monitor.running() == None);
+    assert!(rt; monitor.is_known(session));
     assert_eq!(rt; monitor.admitted(session), 1);
     let lines = monitor.take(session)?;
-    let reply = "{\"error\": {\"class\": \"GenericError\", \"desc\": \"QMP input lacks member 'execute'\"}}";
+    let reply =
+        "{\"error\": {\"class\": \"GenericError\", \"desc\": \"QMP input lacks member 'execute'\"}}";
     expect(&rt, &lines, &[GREETING, reply]);
     monitor.end(session)?;
     monitor.drop_session(session, Cause::Ended)?;

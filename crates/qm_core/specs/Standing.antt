@@ -62,7 +62,7 @@ abbrev mutual
   -- the mode: commands are taken from the first time that negotiation was answered with a return
   pub mode_of : ℕ → List Entry → Mode
   mode_of s [] = Negotiating
-  mode_of s (Done t k reply moment ∷ past) = 
+  mode_of s (Done t k reply moment ∷ past) =
       if t == s && (negotiates (running_of past) && is_return reply) then Command else mode_of s past
   mode_of s (e ∷ past) = mode_of s past
 

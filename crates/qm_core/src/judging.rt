@@ -171,7 +171,12 @@ fn run(alloc: Global, name: &[u8], arguments: &[Member]) -> Result<Verdict, NoMe
     }
 }
 
-fn command_verdict(alloc: Global, mode: Mode, value: &Json, name: &[u8]) -> Result<Verdict, NoMemory>
+fn command_verdict(
+    alloc: Global,
+    mode: Mode,
+    value: &Json,
+    name: &[u8],
+) -> Result<Verdict, NoMemory>
     ensures { IfOk result (λ verdict. verdict ≡ command_verdict_of mode value.now name.now) }
 {
     if let Some(refusal) = bad_arguments(value) {
