@@ -9,6 +9,18 @@ use Rattle.qm_script.specs.declared.endings.PlayEnd.TheVariants as end
 use Rattle.qmpd.specs.Answers.{Ran, Ends, Answers}
 use Rattle.qmpd.specs.Output.{run_with, answer_of, end_status_of, cannot_read, missing}
 use Rattle.qmpd.specs.Words.{Replay}
+use Rattle.qmpd.specs.Output.{limits_of, replayed}
+use Rattle.qm_script.specs.Playing.{played_of}
+use Rattle.qm_script.specs.Laws.{journal_of}
+use Rattle.qm_script.specs.Lines.{lines_of}
+use Rattle.qm_script.specs.Playing.{nothing_played}
+use Rattle.qm_script.proofs.LegalPlays.{played_legal}
+use Rattle.qm_core.specs.declared.monitor.Limits.{Limits}
+use Rattle.qm_core.specs.Legal.{IsLegal, past_of}
+use Rattle.qm_core.proofs.Transcripts.{taken_first}
+
+plays_legal : (limits : Limits) (script : List ℕ) → IsLegal (journal_of limits script)
+plays_legal limits script = played_legal limits 1 nothing_played (lines_of script) tt
 
 told_more-nothing : (told : Option (List ℕ)) → told ≡ told_more told []
 told_more-nothing None = refl
@@ -72,7 +84,18 @@ done ran status answer told kept ends =
       sink_failed = λ seven. ends.failed seven;
       sink_kept = λ other. ends.kept other;
       sink_part = λ seven. inl (ends.part_at_fault seven);
+      library_named = λ name named e. absurd (six e);
+      legal = λ replay script _ _. plays_legal (limits_of replay.entries) script;
+      begins = λ replay script s _ _. taken_first s (past_of (journal_of (limits_of replay.entries) script)) (plays_legal (limits_of replay.entries) script);
     }
+
+-- the script was played
+pub present : (ran : Ran) (status : ℕ) (replay : Replay) (script : List ℕ) → ran.replay ≡ Some replay →
+    ((files : List NamedText) → ran.files ≡ Some files → Some script ≡ text_of replay.script files) → ran.library_now ≡ ran.library_before →
+    Ends (replayed (played_of (limits_of replay.entries) script)).bytes (replayed (played_of (limits_of replay.entries) script)).status ran.sink status → Answers ran status
+present ran status replay script named told kept ends =
+    done ran status (Some script) (λ files e. told files e ∙ sym (ap (λ (r : Option Replay). answer_of r files) named)) kept
+    (subst (λ (r : Option Replay). Ends (run_with r (Some script)).bytes (run_with r (Some script)).status ran.sink status) (sym named) ends)
 
 -- there is no such script
 pub absent : (ran : Ran) (status : ℕ) (replay : Replay) → ran.replay ≡ Some replay →
@@ -92,9 +115,9 @@ told_answer-is None script told e = cc
 told_answer-is (Some others) script told e = (let same : others ≡ told = cc in ap (λ (f : List NamedText). answer_of script f) same)
 
 -- reading the script failed
-pub unread : (ran : Ran) (status : ℕ) (name : Replay) → ran.replay ≡ Some name → Rose ran.library_before ran.library_now →
+pub unread : (ran : Ran) (status : ℕ) (name : Replay) → ran.replay ≡ Some name → Rose ran.library_before ran.library_now → ran.failed_name ≡ name.script →
     Ends (cannot_read name.script) 6 ran.sink status → (status ≡ 1 → ran.sink.holds ≡ ran.sink.held) → Answers ran status
-unread ran status name named rose ends nothing =
+unread ran status name named rose noted ends nothing =
     let six : status ≢ 1 → status ≢ 7 → status ≡ 6 = λ one seven. ends.status_is one seven in
     let same : (other : Replay) → ran.replay ≡ Some other → name ≡ other = λ other e. (let h : Some name ≡ Some other = sym named ∙ e in cc) in
     record {
@@ -114,6 +137,9 @@ unread ran status name named rose ends nothing =
       library_kept = λ one not_six seven. absurd (not_six (six one seven));
       sink_failed = λ seven. ends.failed seven;
       sink_kept = λ other. ends.kept other;
+      library_named = λ other e status_six. noted ∙ ap (λ (r : Replay). r.script) (same other e);
+      legal = λ replay script _ _. plays_legal (limits_of replay.entries) script;
+      begins = λ replay script s _ _. taken_first s (past_of (journal_of (limits_of replay.entries) script)) (plays_legal (limits_of replay.entries) script);
       sink_part = λ seven. inr record { replay = name; asked = named; rose = rose; part = ends.part_at_fault seven };
     }
 
@@ -137,4 +163,7 @@ wanted_memory ran kept still nothing = record {
   sink_failed = λ e. absurd (cc);
   sink_kept = λ _. still;
   sink_part = λ e. absurd (cc);
+  library_named = λ _ _ e. absurd (cc);
+  legal = λ replay script _ _. plays_legal (limits_of replay.entries) script;
+  begins = λ replay script s _ _. taken_first s (past_of (journal_of (limits_of replay.entries) script)) (plays_legal (limits_of replay.entries) script);
 }

@@ -3,7 +3,11 @@ use Rattle.std.specs.Prelude.{◌≡◌, ◌≢◌, ℕ, List, Option, Some, Non
 use Rattle.qm_base.specs.Faults.{Rose, told_more, HoldsPart}
 use Rattle.qapi_load.specs.Files.{NamedText}
 use Rattle.qm_script.specs.Plays.{Sinking}
-use Rattle.qmpd.specs.Output.{run_with, answer_of, cannot_read}
+use Rattle.qm_script.specs.Laws.{journal_of}
+use Rattle.qm_core.specs.Legal.{IsLegal, past_of}
+use Rattle.qm_core.specs.Transcript.{taken_of, transcript_of}
+use Rattle.qm_base.specs.Prefixes.{IsPrefix}
+use Rattle.qmpd.specs.Output.{run_with, answer_of, cannot_read, limits_of}
 use Rattle.qmpd.specs.Words.{Replay}
 
 -- what is asked, and the library and the sink before and after the run
@@ -12,6 +16,7 @@ pub record Ran : Type 0 where
   pub files : Option (List NamedText)
   pub library_before : ℕ
   pub library_now : ℕ
+  pub failed_name : List ℕ
   pub sink : Sinking
 
 -- the answer of a part of the run that puts these bytes and wants this status: 1 where memory was
@@ -52,8 +57,13 @@ pub record Answers (ran : Ran) (status : ℕ) : Type 0 where
   -- 6 exactly where the library's count rose and the sink's did not; the line names the script
   pub library_failed : status ≡ 6 → Rose ran.library_before ran.library_now
   pub library_line : (replay : Replay) → ran.replay ≡ Some replay → status ≡ 6 → ran.sink.holds ≡ told_more ran.sink.held (cannot_read replay.script)
+  pub library_named : (replay : Replay) → ran.replay ≡ Some replay → status ≡ 6 → ran.failed_name ≡ replay.script
   pub library_kept : status ≢ 1 → status ≢ 6 → status ≢ 7 → ran.library_now ≡ ran.library_before
   -- 7 exactly where the sink's count rose; a part was put
   pub sink_failed : status ≡ 7 → Rose ran.sink.before ran.sink.now
   pub sink_kept : status ≢ 7 → ran.sink.now ≡ ran.sink.before
   pub sink_part : status ≡ 7 → HoldsPart ran.sink.held (run_with ran.replay answer).bytes ran.sink.holds ⊎ PutsUnread ran
+  -- the journal that was played is legal, and what each session was handed begins its transcript
+  pub legal : (replay : Replay) (script : List ℕ) → ran.replay ≡ Some replay → answer ≡ Some script → IsLegal (journal_of (limits_of replay.entries) script)
+  pub begins : (replay : Replay) (script : List ℕ) (s : ℕ) → ran.replay ≡ Some replay → answer ≡ Some script →
+      (let past = past_of (journal_of (limits_of replay.entries) script) in IsPrefix (taken_of s past) (transcript_of s past))

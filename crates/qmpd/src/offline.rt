@@ -135,6 +135,7 @@ pub fn run_offline<L: Library, S: Sink>(
       files = L.files library.old;
       library_before = L.faults library.old;
       library_now = L.faults library.new;
+      failed_name = L.failed_name library.new;
       sink = record {
         held = S.contents sink.old;
         holds = S.contents sink.new;
