@@ -3,7 +3,7 @@
 ghost use Rattle.std.specs.Prelude.{◌≡◌, ℕ, List, ◌∷◌, ◌++◌, Option};
 ghost use Rattle.qm_base.specs.Prefixes.{IsPrefix};
 ghost use Rattle.qm_core.specs.Legal.{IsLegal, past_of};
-ghost use Rattle.qm_core.specs.Next.{Next, Shown, Step, IsCleanStep};
+ghost use Rattle.qm_core.specs.Next.{Next, View, Step, IsCleanStep};
 ghost use Rattle.qm_core.specs.Order.{MayFollow};
 ghost use Rattle.qm_core.specs.Transcript.{transcript_of, taken_of, untaken_of};
 ghost use Rattle.qm_core.specs.declared.entries.Entry.{Entry};
@@ -26,6 +26,6 @@ pub fn taken_lines_begin_the_transcript()
 
 /// After each step of a monitor its journal is as legal as before.
 pub fn a_step_keeps_the_journal_legal()
-    ensures { (old : Shown) (step : Step) (fault : Option StepFault) (new : Shown) →
+    ensures { (old : View) (step : Step) (fault : Option StepFault) (new : View) →
         Next old step fault new → IsCleanStep step → IsLegal old.journal → IsLegal new.journal }
 {}

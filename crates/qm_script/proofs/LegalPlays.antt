@@ -2,13 +2,13 @@
 use Rattle.std.proofs.Common.{◌≡◌, ℕ, ◌+◌, ◌==◌, ◌++◌, Bool, true, false, cond, List, [], ◌∷◌, length, Option, Some, None, IfSome, Result, Ok, Err, IfOk, ◌<◌, ◌^◌, refl}
 use Rattle.std.specs.List.{slice_get}
 use Rattle.qm_core.specs.Legal.{IsLegal, past_of}
-use Rattle.qm_core.specs.Next.{Shown, refusal_of, entry_of, session_refusal, IsCleanStep}
+use Rattle.qm_core.specs.Next.{View, refusal_of, entry_of, session_refusal, IsCleanStep}
 use Rattle.qm_core.specs.Next as step
 use Rattle.qm_core.specs.Standing.{sessions_of, admitted_of, running_of, named_of}
 use Rattle.qm_core.specs.declared.entries.StepFault.{StepFault}
 use Rattle.qm_core.specs.declared.inputs.Input.{Input}
 use Rattle.qm_core.specs.declared.monitor.Limits.{Limits}
-use Rattle.qm_core.specs.declared.requests.Started.{Started}
+use Rattle.qm_core.specs.declared.requests.RequestName.{RequestName}
 use Rattle.qm_core.proofs.StepLaws.{next_legal}
 use Rattle.qm_script.specs.Fed.{fed_inputs_of}
 use Rattle.qm_script.specs.Laws.{journal_of}
@@ -29,8 +29,8 @@ GoesOn step = IfOk step (λ played. IsLegal played.journal)
 stepped_legal : (limits : Limits) (played : Played) (step : step.Step) (fault : Option StepFault) → fault ≡ refusal_of limits (past_of played.journal) step →
     IsCleanStep step → IsLegal played.journal → GoesOn (stepped played fault (entry_of (past_of played.journal) step))
 stepped_legal limits played step None answer clean legal =
-    let old : Shown = record { limits = limits; journal = played.journal } in
-    let new : Shown = record { limits = limits; journal = played.journal ++ entry_of (past_of played.journal) step ∷ [] } in
+    let old : View = record { limits = limits; journal = played.journal } in
+    let new : View = record { limits = limits; journal = played.journal ++ entry_of (past_of played.journal) step ∷ [] } in
     next_legal old step None new record { answer = answer; journal = refl; limits = refl } clean legal
 stepped_legal limits played step (Some fault) answer clean legal = tt
 
@@ -55,7 +55,7 @@ admit_legal limits played s None legal =
     input_legal limits played s (admitted_of s (past_of played.journal)) (slice_get (fed_inputs_of (fed_to s played.fed)) (admitted_of s (past_of played.journal))) refl legal
 admit_legal limits played s (Some fault) legal = tt
 
-finish_legal : (limits : Limits) (played : Played) (moment : ℕ) (request : Option Started) → moment < 2 ^ 64 → IsLegal played.journal → GoesOn (finish_step limits played moment request)
+finish_legal : (limits : Limits) (played : Played) (moment : ℕ) (request : Option RequestName) → moment < 2 ^ 64 → IsLegal played.journal → GoesOn (finish_step limits played moment request)
 finish_legal limits played moment None small legal = tt
 finish_legal limits played moment (Some request) small legal = core_legal limits played (step.Finish request.session request.number moment) small legal
 
