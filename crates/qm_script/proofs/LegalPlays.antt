@@ -11,7 +11,7 @@ use Rattle.qm_core.specs.declared.monitor.Limits.{Limits}
 use Rattle.qm_core.specs.declared.requests.RequestName.{RequestName}
 use Rattle.qm_core.proofs.StepLaws.{next_legal}
 use Rattle.qm_script.specs.Fed.{fed_inputs_of}
-use Rattle.qm_script.specs.Laws.{journal_of}
+use Rattle.qm_script.specs.Playing.{journal_of}
 use Rattle.qm_script.specs.Lines.{lines_of}
 use Rattle.qm_script.specs.Orders.{order_of, fed_by, hex_bytes_of, is_skipped}
 use Rattle.qm_script.specs.Playing.{Played, Ended, stepped, core_step, fed_step, fed_to, input_step, admit_step, finish_step, ordered, line_step, after_line, nothing_played, played_from}

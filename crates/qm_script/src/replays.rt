@@ -6,7 +6,7 @@ ghost use Rattle.qm_core.specs.declared.TheConstants.{MOST_ENTRIES, MOST_TEXT};
 ghost use Rattle.qm_script.specs.Lines.{lines_of};
 ghost use Rattle.qm_script.specs.Playing.{played_from, played_of};
 ghost use Rattle.qm_script.specs.Plays.{Plays, sunk};
-ghost use Rattle.qm_script.specs.Runs.{Finishes};
+ghost use Rattle.qm_script.specs.Kept.{Finishes};
 
 use crate::closings::{closing, end_of};
 use crate::endings::{PlayEnd, Refused};

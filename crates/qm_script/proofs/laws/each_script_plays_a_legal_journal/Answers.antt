@@ -1,6 +1,6 @@
 use Rattle.qm_core.specs.Legal.{past_of}
 use Rattle.qm_core.proofs.Transcripts.{taken_first}
-use Rattle.qm_script.specs.Laws.{journal_of}
+use Rattle.qm_script.specs.Playing.{journal_of}
 use Rattle.qm_script.proofs.LegalPlays.{script_legal}
 use Rattle.qm_script.proofs.laws.each_script_plays_a_legal_journal.Goals as goal
 
