@@ -15,7 +15,10 @@ pub enum LibraryFault {
 }
 
 impl From<NoMemory> for LibraryFault {
-    ghost from_gives = { λ _ e. e ≡ LibraryFault.Memory };
+    ghost use Rattle.std.specs.Prelude.{◌≡◌};
+    ghost use Rattle.qapi_load.specs.declared.library.LibraryFault.TheVariants.{Memory};
+
+    ghost from_gives = { λ _ e. e ≡ Memory };
 
     fn from(_fault: NoMemory) -> LibraryFault {
         LibraryFault::Memory
