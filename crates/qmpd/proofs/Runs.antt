@@ -15,7 +15,7 @@ use Rattle.qm_script.specs.declared.endings.Stop.TheVariants.{BadLine, Step, Ses
 use Rattle.qm_script.proofs.LegalPlays.{script_legal}
 use Rattle.qmpd.specs.Answers.{Ran, Ends, Gives, Answers, IsNamed, PutsUnread}
 use Rattle.qmpd.specs.Causes.{is_full, Misses, Stops}
-use Rattle.qmpd.specs.Output.{Output, output_of, asked_output, replay_output, end_status_of, limits_of, play_of, play_from, journal_for, cannot_read}
+use Rattle.qmpd.specs.Output.{Output, output_of, asked_output, replay_output, end_status_of, limits_of, play_of, play_from, journal_for, cannot_read, missing as no_file}
 use Rattle.qmpd.specs.Words.{Replay, replay_of}
 
 told_more-nothing : (told : Option (List ℕ)) → told ≡ told_more told []
@@ -39,7 +39,7 @@ files-told None name answer files e = cc
 files-told (Some told) name answer files e = cc
 
 name_is : (name : List ℕ) → bytes_eq name name ≡ true
-name_is name = grind (bytes_eq-Decides name name)
+name_is name = (bytes_eq-Decides name name).1 refl
 
 files-answer : (told : Option (List NamedText)) (name : List ℕ) (answer : Option (List ℕ)) →
     ((files : List NamedText) → told ≡ Some files → answer ≡ text_of name files) → text_of name (run_files told name answer) ≡ answer
@@ -48,18 +48,18 @@ files-answer None name (Some text) value = rw (name_is name) refl
 files-answer (Some files) name answer value = sym (value files refl)
 
 -- the status of an output, with its cause
-room : (n : ℕ) (stop : Stop) → end_status_of (stop_end_of n stop) ≡ cond (is_full stop) 9 5
-room n BadLine = refl
-room n (Step word) = refl
-room n SessionsFull = refl
-room n JournalFull = refl
+stop_number : (n : ℕ) (stop : Stop) → end_status_of (stop_end_of n stop) ≡ cond (is_full stop) 9 5
+stop_number n BadLine = refl
+stop_number n (Step word) = refl
+stop_number n SessionsFull = refl
+stop_number n JournalFull = refl
 
 stop_status : (full : Bool) (words : List (List ℕ)) (files : List NamedText) → Stops full words files → (output_of words files).status ≡ cond full 9 5
 stop_status full words files stops =
     ap (λ (r : Option Replay). (asked_output files r).status) stops.asked
     ∙ ap (λ (t : Option (List ℕ)). (replay_output stops.replay (option_map (play_of stops.replay) t)).status) stops.found
     ∙ ap (λ (r : Option Refused). end_status_of (end_of r)) stops.stops
-    ∙ room stops.line.line stops.line.stop
+    ∙ stop_number stops.line.line stops.line.stop
     ∙ ap (λ (b : Bool). cond b 9 5) stops.cause
 
 miss_status : (words : List (List ℕ)) (files : List NamedText) → Misses words files → (output_of words files).status ≡ 5
@@ -70,62 +70,71 @@ miss_status words files misses =
 usage_status : (words : List (List ℕ)) (files : List NamedText) → replay_of words ≡ None → (output_of words files).status ≡ 2
 usage_status words files none = ap (λ (r : Option Replay). (asked_output files r).status) none
 
--- the causes of an output
-data Cause (words : List (List ℕ)) (files : List NamedText) : Type 0 where
-  usage : replay_of words ≡ None → Cause words files
-  missing : Misses words files → Cause words files
-  whole : (output_of words files).status ≡ 0 → Cause words files
-  stopped : (full : Bool) → Stops full words files → Cause words files
+-- the causes of an output's status
+data Cause (words : List (List ℕ)) (files : List NamedText) : ℕ → Type 0 where
+  usage : replay_of words ≡ None → Cause words files 2
+  missing : Misses words files → Cause words files 5
+  whole : Cause words files 0
+  refused : Stops false words files → Cause words files 5
+  full : Stops true words files → Cause words files 9
+
+stop_cause : (words : List (List ℕ)) (files : List NamedText) (room : Bool) → Stops room words files → Cause words files (cond room 9 5)
+stop_cause words files true stops = full stops
+stop_cause words files false stops = refused stops
 
 played_cause : (words : List (List ℕ)) (files : List NamedText) (replay : Replay) (script : List ℕ) (line : Option Refused) →
-    replay_of words ≡ Some replay → text_of replay.script files ≡ Some script → (play_of replay script).refused ≡ line → Cause words files
-played_cause words files replay script None asked found ends = whole (
+    replay_of words ≡ Some replay → text_of replay.script files ≡ Some script → (play_of replay script).refused ≡ line → Cause words files (output_of words files).status
+played_cause words files replay script None asked found ends =
+    let zero : (output_of words files).status ≡ 0 =
     ap (λ (r : Option Replay). (asked_output files r).status) asked
     ∙ ap (λ (t : Option (List ℕ)). (replay_output replay (option_map (play_of replay) t)).status) found
-    ∙ ap (λ (r : Option Refused). end_status_of (end_of r)) ends
-    )
+    ∙ ap (λ (r : Option Refused). end_status_of (end_of r)) ends in
+    subst (λ (n : ℕ). Cause words files n) (sym zero) whole
 played_cause words files replay script (Some line) asked found stops =
-    stopped (is_full line.stop) record { replay = replay; asked = asked; script = script; found = found; line = line; stops = stops; cause = refl }
+    let stop : Stops (is_full line.stop) words files = record { replay = replay; asked = asked; script = script; found = found; line = line; stops = stops; cause = refl } in
+    subst (λ (n : ℕ). Cause words files n) (sym (stop_status (is_full line.stop) words files stop)) (stop_cause words files (is_full line.stop) stop)
 
 asked_cause : (words : List (List ℕ)) (files : List NamedText) (replay : Replay) (found : Option (List ℕ)) →
-    replay_of words ≡ Some replay → text_of replay.script files ≡ found → Cause words files
-asked_cause words files replay None asked found = missing record { replay = replay; asked = asked; missing = found }
+    replay_of words ≡ Some replay → text_of replay.script files ≡ found → Cause words files (output_of words files).status
+asked_cause words files replay None asked found =
+    let misses : Misses words files = record { replay = replay; asked = asked; missing = found } in
+    subst (λ (n : ℕ). Cause words files n) (sym (miss_status words files misses)) (missing misses)
 asked_cause words files replay (Some script) asked found = played_cause words files replay script (play_of replay script).refused asked found refl
 
-words_cause : (words : List (List ℕ)) (files : List NamedText) (replay : Option Replay) → replay_of words ≡ replay → Cause words files
-words_cause words files None asked = usage asked
+words_cause : (words : List (List ℕ)) (files : List NamedText) (replay : Option Replay) → replay_of words ≡ replay → Cause words files (output_of words files).status
+words_cause words files None asked = subst (λ (n : ℕ). Cause words files n) (sym (usage_status words files asked)) (usage asked)
 words_cause words files (Some replay) asked = asked_cause words files replay (text_of replay.script files) asked refl
 
-cause_of : (words : List (List ℕ)) (files : List NamedText) → Cause words files
+cause_of : (words : List (List ℕ)) (files : List NamedText) → Cause words files (output_of words files).status
 cause_of words files = words_cause words files (replay_of words) refl
 
-only_usage : (words : List (List ℕ)) (files : List NamedText) → Cause words files → (output_of words files).status ≡ 2 → replay_of words ≡ None
-only_usage words files (usage none) two = none
-only_usage words files (missing misses) two = absurd (let e : 2 ≡ 5 = sym two ∙ miss_status words files misses in cc)
-only_usage words files (whole zero) two = absurd (let e : 2 ≡ 0 = sym two ∙ zero in cc)
-only_usage words files (stopped true stops) two = absurd (let e : 2 ≡ 9 = sym two ∙ stop_status true words files stops in cc)
-only_usage words files (stopped false stops) two = absurd (let e : 2 ≡ 5 = sym two ∙ stop_status false words files stops in cc)
+only_usage : (words : List (List ℕ)) (files : List NamedText) (n : ℕ) → Cause words files n → n ≡ 2 → replay_of words ≡ None
+only_usage words files n (usage none) two = none
+only_usage words files n (missing misses) two = absurd (cc)
+only_usage words files n whole two = absurd (cc)
+only_usage words files n (refused stops) two = absurd (cc)
+only_usage words files n (full stops) two = absurd (cc)
 
-never_unread : (words : List (List ℕ)) (files : List NamedText) → Cause words files → (output_of words files).status ≢ 6
-never_unread words files (usage none) = λ six. (let e : 6 ≡ 2 = sym six ∙ usage_status words files none in cc)
-never_unread words files (missing misses) = λ six. (let e : 6 ≡ 5 = sym six ∙ miss_status words files misses in cc)
-never_unread words files (whole zero) = λ six. (let e : 6 ≡ 0 = sym six ∙ zero in cc)
-never_unread words files (stopped true stops) = λ six. (let e : 6 ≡ 9 = sym six ∙ stop_status true words files stops in cc)
-never_unread words files (stopped false stops) = λ six. (let e : 6 ≡ 5 = sym six ∙ stop_status false words files stops in cc)
+never_unread : (words : List (List ℕ)) (files : List NamedText) (n : ℕ) → Cause words files n → n ≢ 6
+never_unread words files n (usage none) = λ six. cc
+never_unread words files n (missing misses) = λ six. cc
+never_unread words files n whole = λ six. cc
+never_unread words files n (refused stops) = λ six. cc
+never_unread words files n (full stops) = λ six. cc
 
-only_refused : (words : List (List ℕ)) (files : List NamedText) → Cause words files → (output_of words files).status ≡ 5 → Misses words files ⊎ Stops false words files
-only_refused words files (usage none) five = absurd (let e : 5 ≡ 2 = sym five ∙ usage_status words files none in cc)
-only_refused words files (missing misses) five = inl misses
-only_refused words files (whole zero) five = absurd (let e : 5 ≡ 0 = sym five ∙ zero in cc)
-only_refused words files (stopped true stops) five = absurd (let e : 5 ≡ 9 = sym five ∙ stop_status true words files stops in cc)
-only_refused words files (stopped false stops) five = inr stops
+only_refused : (words : List (List ℕ)) (files : List NamedText) (n : ℕ) → Cause words files n → n ≡ 5 → Misses words files ⊎ Stops false words files
+only_refused words files n (usage none) five = absurd (cc)
+only_refused words files n (missing misses) five = inl misses
+only_refused words files n whole five = absurd (cc)
+only_refused words files n (refused stops) five = inr stops
+only_refused words files n (full stops) five = absurd (cc)
 
-only_full : (words : List (List ℕ)) (files : List NamedText) → Cause words files → (output_of words files).status ≡ 9 → Stops true words files
-only_full words files (usage none) nine = absurd (let e : 9 ≡ 2 = sym nine ∙ usage_status words files none in cc)
-only_full words files (missing misses) nine = absurd (let e : 9 ≡ 5 = sym nine ∙ miss_status words files misses in cc)
-only_full words files (whole zero) nine = absurd (let e : 9 ≡ 0 = sym nine ∙ zero in cc)
-only_full words files (stopped true stops) nine = stops
-only_full words files (stopped false stops) nine = absurd (let e : 9 ≡ 5 = sym nine ∙ stop_status false words files stops in cc)
+only_full : (words : List (List ℕ)) (files : List NamedText) (n : ℕ) → Cause words files n → n ≡ 9 → Stops true words files
+only_full words files n (usage none) nine = absurd (cc)
+only_full words files n (missing misses) nine = absurd (cc)
+only_full words files n whole nine = absurd (cc)
+only_full words files n (refused stops) nine = absurd (cc)
+only_full words files n (full stops) nine = stops
 
 -- the journal of a run is legal
 script_journal-legal : (replay : Replay) (script : Option (List ℕ)) →
@@ -161,10 +170,10 @@ gives files ran status plain wanting part =
       bytes_are = λ one six seven. (plain one six seven).1;
       wanting = wanting;
       sink_part = part;
-      refused_only = λ five. only_refused ran.words files cause (sym (plain (λ e. cc) (λ e. cc) (λ e. cc)).0 ∙ five);
+      refused_only = λ five. only_refused ran.words files (output_of ran.words files).status cause (sym (plain (λ e. cc) (λ e. cc) (λ e. cc)).0 ∙ five);
       missing = λ misses one six seven. (plain one six seven).0 ∙ miss_status ran.words files misses;
       refused = λ stops one six seven. (plain one six seven).0 ∙ stop_status false ran.words files stops;
-      full_only = λ nine. only_full ran.words files cause (sym (plain (λ e. cc) (λ e. cc) (λ e. cc)).0 ∙ nine);
+      full_only = λ nine. only_full ran.words files (output_of ran.words files).status cause (sym (plain (λ e. cc) (λ e. cc) (λ e. cc)).0 ∙ nine);
       full = λ stops one six seven. (plain one six seven).0 ∙ stop_status true ran.words files stops;
     }
 
@@ -184,7 +193,7 @@ answers files ran status told given unread kept failed still =
       gives = given;
       legal = legal;
       begins = λ s. taken_first s (past_of (journal_for ran.words files)) legal;
-      usage_only = λ two. only_usage ran.words files (cause_of ran.words files) (sym (given.status_is (λ e. cc) (λ e. cc) (λ e. cc)) ∙ two);
+      usage_only = λ two. only_usage ran.words files (output_of ran.words files).status (cause_of ran.words files) (sym (given.status_is (λ e. cc) (λ e. cc) (λ e. cc)) ∙ two);
       usage = λ none one seven. given.status_is one (λ six. unnamed ran.words ran.failed_name none (unread six).named) seven ∙ usage_status ran.words files none;
       library_failed = λ six. (unread six).rose;
       library_named = λ six. (unread six).named;
@@ -200,7 +209,7 @@ done : (files : List NamedText) (ran : Ran) (status : ℕ) → ((told : List Nam
 done files ran status told kept ends =
     answers files ran status told
     (gives files ran status (λ one six seven. (ends.status_is one seven, ends.whole one seven)) ends.part_at_memory (λ seven. inl (ends.part_at_fault seven)))
-    (λ six. absurd (never_unread ran.words files (cause_of ran.words files) (sym (ends.status_is (λ e. cc) (λ e. cc)) ∙ six)))
+    (λ six. absurd (never_unread ran.words files (output_of ran.words files).status (cause_of ran.words files) (sym (ends.status_is (λ e. cc) (λ e. cc)) ∙ six)))
     (λ one six seven. kept) ends.failed ends.kept
 
 -- the words are outside the grammar
@@ -223,15 +232,25 @@ answered ran status replay answer asked value kept ends =
     done files ran status (λ told e. files-told ran.files replay.script answer told e) kept
     (subst (λ (o : Output). Ends o.bytes o.status ran.sink status) (sym same) ends)
 
+-- there is no such script
+pub absent : (ran : Ran) (status : ℕ) (replay : Replay) (name : List ℕ) → replay_of ran.words ≡ Some replay → name ≡ replay.script →
+    ((files : List NamedText) → ran.files ≡ Some files → None ≡ text_of name files) → ran.library_now ≡ ran.library_before →
+    Ends (no_file name).bytes 5 ran.sink status → Answers ran status
+absent ran status replay name asked is value kept ends =
+    answered ran status replay None asked (λ files e. value files e ∙ ap (λ (n : List ℕ). text_of n files) is) kept
+    (subst (λ (n : List ℕ). Ends (no_file n).bytes 5 ran.sink status) is ends)
+
 -- reading the script failed
-pub unread : (ran : Ran) (status : ℕ) (replay : Replay) → replay_of ran.words ≡ Some replay → Rose ran.library_before ran.library_now →
-    ran.failed_name ≡ replay.script → Ends (cannot_read replay.script) 6 ran.sink status → (status ≡ 1 → ran.sink.holds ≡ ran.sink.held) → Answers ran status
-unread ran status replay asked rose noted ends nothing =
-    let files = run_files ran.files replay.script None in
+pub unread : (ran : Ran) (status : ℕ) (replay : Replay) (name : List ℕ) → replay_of ran.words ≡ Some replay → name ≡ replay.script →
+    Rose ran.library_before ran.library_now → ran.failed_name ≡ name → Ends (cannot_read name) 6 ran.sink status →
+    (status ≡ 1 → ran.sink.holds ≡ ran.sink.held) → Answers ran status
+unread ran status replay name asked is rose noted ends nothing =
+    let files = run_files ran.files [] None in
     let six : status ≢ 1 → status ≢ 7 → status ≡ 6 = λ one seven. ends.status_is one seven in
-    let named : IsNamed ran.words ran.failed_name = ap (λ (r : Option Replay). option_map (λ (replay : Replay). replay.script) r) asked ∙ ap (λ (l : List ℕ). Some l) (sym noted) in
-    let line : Ends (cannot_read ran.failed_name) 6 ran.sink status = subst (λ (name : List ℕ). Ends (cannot_read name) 6 ran.sink status) (sym noted) ends in
-    answers files ran status (λ told e. files-told ran.files replay.script None told e)
+    let named : IsNamed ran.words ran.failed_name =
+    ap (λ (r : Option Replay). option_map (λ (replay : Replay). replay.script) r) asked ∙ ap (λ (l : List ℕ). Some l) (sym (noted ∙ is)) in
+    let line : Ends (cannot_read ran.failed_name) 6 ran.sink status = subst (λ (n : List ℕ). Ends (cannot_read n) 6 ran.sink status) (sym noted) ends in
+    answers files ran status (λ told e. files-told ran.files [] None told e)
     (gives files ran status (λ one other seven. absurd (other (six one seven))) (λ one. holds_nothing _ _ _ (nothing one))
     (λ seven. inr record { rose = rose; named = named; part = line.part_at_fault seven }))
     (λ status_six. record { rose = rose; named = named; line = line.whole (λ e. cc) (λ e. cc) })

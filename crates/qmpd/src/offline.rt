@@ -117,10 +117,11 @@ pub fn run_offline<L: Library, S: Sink>(
     let Some(replay) = replay_of(words) else {
         return refuse_words(sink);
     };
-    match library.text(alloc, replay.script()) {
+    let name = replay.script();
+    match library.text(alloc, name) {
         Ok(Some(script)) => play_script(alloc, replay.entries(), script.as_slice(), sink),
-        Ok(None) => refuse_missing(alloc, replay.script(), sink),
-        Err(LibraryFault::Failed) => refuse_unread(alloc, replay.script(), sink),
+        Ok(None) => refuse_missing(alloc, name, sink),
+        Err(LibraryFault::Failed) => refuse_unread(alloc, name, sink),
         Err(LibraryFault::Memory) => 1,
     }
 }
