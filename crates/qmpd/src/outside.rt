@@ -9,6 +9,7 @@ use std::{fs, str};
 const MOST_BYTES: usize = 67_108_864;
 
 /// Why a file was not read.
+#[derive(Drop)]
 pub enum ReadFault {
     /// There is none.
     Missing,

@@ -62,7 +62,7 @@ fn each_run_ends_as_wanted(rt: HostRuntime) -> Result<(), Fail> {
 fn a_library_or_sink_that_fails(rt: HostRuntime) -> Result<(), Fail> {
     let ran = run(rt.alloc(), runs::REPLAY, "open\n", 1, 0)?;
     assert_eq!(rt; ran.status, 6);
-    assert!(rt; ran.sink.taken() == b"error: cannot read a.script\n");
+    assert!(rt; ran.sink.taken() == b"error: cannot read a.script\n".as_slice());
     for (call, output) in [(1, ""), (2, "1 open 1\n")] {
         let ran = run(rt.alloc(), runs::REPLAY, "open\n", 0, call)?;
         assert_eq!(rt; ran.status, 7);

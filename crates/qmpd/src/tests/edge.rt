@@ -60,7 +60,7 @@ fn an_interrupted_call_is_tried_again(rt: HostRuntime) {
         left: 3,
     };
     assert!(rt;
-        matches!(&read_whole(rt.alloc(), &mut reader), Ok(text) if text.as_slice() == b"aaa")
+        matches!(&read_whole(rt.alloc(), &mut reader), Ok(text) if text.as_slice() == b"aaa".as_slice())
     );
     let mut sink = OutSink::new(Interrupted {
         is_next: false,
