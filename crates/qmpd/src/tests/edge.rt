@@ -1,5 +1,7 @@
 //! Real files and outputs that fail, and reads and writes that are interrupted.
 
+ghost use Rattle.std.specs.Prelude.{◌≤◌, IfOk};
+
 use crate::outside::{FileLibrary, OutSink, ReadFault, read_whole};
 use qapi_load::{Library, LibraryFault};
 use qm_link::{Sink, SinkFailed};
@@ -17,7 +19,9 @@ struct Interrupted {
 }
 
 impl Interrupted {
-    fn moved(&mut self) -> io::Result<usize> {
+    fn moved(&mut self) -> io::Result<usize>
+        ensures { IfOk result (λ n. n ≤ 1) }
+    {
         self.is_next = !self.is_next;
         if self.is_next {
             return Err(Error::from(ErrorKind::Interrupted));
