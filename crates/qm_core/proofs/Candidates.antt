@@ -1,6 +1,7 @@
 -- The lines that a session may be sent, and one more.
 use Rattle.std.proofs.Common.{◌≡◌, ℕ, ◌+◌, nat_le, nat_lt, Bool, true, false, not, cond, ◌&&◌, ◌||◌, List, [], ◌∷◌, ◌++◌, length, refl, ap, sym, ◌∙◌, subst, append_assoc, arith}
 use Rattle.std.specs.List.{list_any, take_while}
+use Rattle.std.proofs.Math.Bool.{or-false}
 use Rattle.std.proofs.lemmas.Bool.Decides.{nat_tests}
 use Rattle.std.proofs.lemmas.List.Folds.{list_any-append}
 use Rattle.std.proofs.lemmas.List.Sums.{take_while-cons}
@@ -59,16 +60,12 @@ passes cs taken untaken line none whole =
     ap (λ (l : List (List ℕ)). length (wire_of (l ++ line ∷ []))) all ∙ ap (λ (l : List (List ℕ)). length (wire_of l)) (append_assoc taken untaken (line ∷ [])) ∙ wire-append taken (untaken ++ line ∷ []) in
     ap (λ (n : ℕ). nat_lt (length (wire_of taken) + MOST_UNTAKEN) n) bytes ∙ past_limit (length (wire_of taken)) (length (wire_of (untaken ++ line ∷ []))) MOST_UNTAKEN
 
-or_false : (b : Bool) → (b || false) ≡ b
-or_false true = refl
-or_false false = refl
-
 -- whether one overruns, after one more line
 pub overruns-more : (cs : List Candidate) (taken untaken : List (List ℕ)) (line : List ℕ) → taken ++ untaken ≡ kept_lines cs →
     any_overruns (with_line cs taken line) ≡ (any_overruns cs || not (fits untaken line))
 overruns-more cs taken untaken line whole =
     let b = passes_limit (lines_in cs) taken line in
-    list_any-append (λ c. c.overruns) cs (record { line = line; overruns = b } ∷ []) ∙ ap (λ (o : Bool). any_overruns cs || o) (or_false b)
+    list_any-append (λ c. c.overruns) cs (record { line = line; overruns = b } ∷ []) ∙ ap (λ (o : Bool). any_overruns cs || o) (or-false b)
     ∙ either (any_overruns cs) b (λ none. passes cs taken untaken line none whole) where
       either : (any b : Bool) → (any ≡ false → b ≡ not (fits untaken line)) → (any || b) ≡ (any || not (fits untaken line))
       either true b h = refl

@@ -1,13 +1,14 @@
 -- Journals that are legal, and one more entry.
-use Rattle.std.proofs.Common.{◌≡◌, ℕ, ◌==◌, Bool, true, false, ◌&&◌, ◌||◌, List, [], ◌∷◌, ◌++◌, reverse, refl, ap, append_assoc, ◌∙◌, subst, ◌⊎◌, inl, inr}
+use Rattle.std.proofs.Common.{◌≡◌, ℕ, ◌==◌, Bool, true, false, ◌||◌, List, [], ◌∷◌, ◌++◌, reverse, refl, ap, append_assoc, ◌∙◌, subst, inl, inr}
 use Rattle.std.specs.List.{list_any}
 use Rattle.std.proofs.lemmas.List.{reverse-append}
+use Rattle.std.proofs.lemmas.Bool.{and_parts, or_cases}
 use Rattle.std.proofs.lemmas.Bool.Decides.{Decides-eqb}
 use Rattle.qm_core.specs.declared.entries.Entry.{Entry}
 use Rattle.qm_core.specs.declared.entries.Entry.TheVariants.{Open, Admit, Start, Done, Take, Eof, Drop}
 use Rattle.qm_core.specs.Legal.{past_of, AllFollow, IsLegal}
 use Rattle.qm_core.specs.Order.{MayFollow}
-use Rattle.qm_core.specs.Standing.{sessions_of, was_opened, is_dropped, is_open}
+use Rattle.qm_core.specs.Standing.{sessions_of, was_opened, is_dropped}
 
 pub past_of-append : (journal : List Entry) (e : Entry) → past_of (journal ++ e ∷ []) ≡ e ∷ past_of journal
 past_of-append journal e = reverse-append journal (e ∷ [])
@@ -25,29 +26,6 @@ legal_at before e after legal =
     let swapped : past_of (before ++ e ∷ after) ≡ (reverse after ++ e ∷ []) ++ past_of before = reverse-append before (e ∷ after) ∙ ap (λ l. l ++ past_of before) (reverse-append (e ∷ []) after) in
     within (reverse after) e (past_of before) (subst AllFollow (swapped ∙ append_assoc (reverse after) (e ∷ []) (past_of before)) legal)
 
-append_not_empty : (xs : List ℕ) (x : ℕ) → xs ++ x ∷ [] ≡ [] → ⊥
-append_not_empty [] x h = cc
-append_not_empty (y ∷ ys) x h = cc
-
--- before any session is opened, nothing stands
-pub nothing_before : (past : List Entry) → AllFollow past → sessions_of past ≡ [] → past ≡ []
-nothing_before [] legal none = refl
-nothing_before (Open s ∷ past) legal none = absurd (append_not_empty (sessions_of past) s none)
-nothing_before (Admit s k lane input ∷ past) legal none = absurd (let e : past ≡ [] = nothing_before past legal.1 none in let h : is_open s [] ≡ true = rw e at legal.0.is_open in cc)
-nothing_before (Start s k ∷ past) legal none = absurd (let e : past ≡ [] = nothing_before past legal.1 none in let h = rw e at legal.0.turn in cc)
-nothing_before (Done s k reply moment ∷ past) legal none = absurd (let e : past ≡ [] = nothing_before past legal.1 none in let h = rw e at legal.0.running in cc)
-nothing_before (Take s lines ∷ past) legal none = absurd (let e : past ≡ [] = nothing_before past legal.1 none in let h : is_open s [] ≡ true = rw e at legal.0.is_open in cc)
-nothing_before (Eof s ∷ past) legal none = absurd (let e : past ≡ [] = nothing_before past legal.1 none in let h : is_open s [] ≡ true = rw e at legal.0.is_open in cc)
-nothing_before (Drop s cause ∷ past) legal none = absurd (let e : past ≡ [] = nothing_before past legal.1 none in let h : is_open s [] ≡ true = rw e at legal.0.is_open in cc)
-
-and_first : (a b : Bool) → (a && b) ≡ true → a ≡ true
-and_first true b h = refl
-and_first false b h = cc
-
-or_either : (a b : Bool) → (a || b) ≡ true → (a ≡ true) ⊎ (b ≡ true)
-or_either true b h = inl refl
-or_either false b h = inr h
-
 opened_more : (s t : ℕ) (opened : List ℕ) → list_any (λ u. u == s) opened ≡ true → list_any (λ u. u == s) (opened ++ t ∷ []) ≡ true
 opened_more s t [] h = cc
 opened_more s t (x ∷ xs) h = elim (x == s) as (λ b. (b || list_any (λ u. u == s) xs) ≡ true → (b || list_any (λ u. u == s) (xs ++ t ∷ [])) ≡ true) [ true ↦ λ _. refl | false ↦ λ g. opened_more s t xs g ] h
@@ -61,9 +39,9 @@ dropped_opened s (Start t k ∷ past) legal h = dropped_opened s past legal.1 h
 dropped_opened s (Done t k reply moment ∷ past) legal h = dropped_opened s past legal.1 h
 dropped_opened s (Take t lines ∷ past) legal h = dropped_opened s past legal.1 h
 dropped_opened s (Eof t ∷ past) legal h = dropped_opened s past legal.1 h
-dropped_opened s (Drop t cause ∷ past) legal h = dropped_here s t past (and_first _ _ legal.0.is_open) (dropped_opened s past legal.1) h where
+dropped_opened s (Drop t cause ∷ past) legal h = dropped_here s t past ((and_parts _ _ legal.0.is_open).0) (dropped_opened s past legal.1) h where
   dropped_here : (s t : ℕ) (past : List Entry) → was_opened t past ≡ true → (is_dropped s past ≡ true → was_opened s past ≡ true) → (t == s || is_dropped s past) ≡ true → was_opened s past ≡ true
-  dropped_here s t past opened others h = elim (or_either _ _ h) [
+  dropped_here s t past opened others h = elim (or_cases _ _ h) [
     | inl same ↦ subst (λ (u : ℕ). was_opened u past ≡ true) ((Decides-eqb t s).0 same) opened
     | inr before ↦ others before
   ]

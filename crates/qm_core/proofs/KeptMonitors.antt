@@ -17,11 +17,11 @@ use Rattle.qm_core.specs.declared.requests.Request.{Request}
 use Rattle.qm_core.specs.declared.requests.RequestName.{RequestName}
 use Rattle.qm_core.specs.declared.sessions.Session.{Session}
 use Rattle.qm_core.specs.Inputs.{IsCleanInput}
-use Rattle.qm_core.specs.Kept.{HasPlace, IsSession, IsFirstOpen, IsRunning, IsSound, answered, sent, view_of}
+use Rattle.qm_core.specs.Kept.{IsPlaced, IsSession, IsFirstOpen, IsRunning, IsSound, answered, sent, view_of}
 use Rattle.qm_core.specs.Legal.{past_of}
 use Rattle.qm_core.specs.Order.{MayFollow}
 use Rattle.qm_core.specs.Replies.{reply_to, is_return}
-use Rattle.qm_core.specs.Standing.{is_ended, open_count_of, admitted_of, in_flight_of, mode_of, running_of, negotiates, last_moment_of}
+use Rattle.qm_core.specs.Standing.{sessions_of, is_ended, open_count_of, admitted_of, in_flight_of, mode_of, running_of, negotiates, last_moment_of}
 use Rattle.qm_core.specs.Texts.{entry_text_of}
 use Rattle.qm_core.proofs.Journals.{legal-append, past_of-append}
 use Rattle.qm_core.proofs.KeptSessions.{kept-admit, kept-done, kept-open, none_waits}
@@ -29,17 +29,16 @@ use Rattle.qm_core.proofs.Texts.{text_more}
 
 -- the fields after one more entry are sound
 pub after_entry : (m : Fields) (e : Entry) (journal : Reserved Entry) (bytes : ℕ) (session : Session) (running : Option Request) (moment : ℕ) → IsSound m →
-    MayFollow (past_of m.journal.items) e → bytes ≡ length (entry_text_of (length m.journal.items + 1) e) → HasPlace (view_of m) bytes (open_count_of (e ∷ past_of m.journal.items)) →
-    journal ≡ record m.journal { items = m.journal.items ++ e ∷ [] } →
+    MayFollow (past_of m.journal.items) e → IsPlaced (view_of m) e bytes → journal ≡ record m.journal { items = m.journal.items ++ e ∷ [] } →
     IsSession (e ∷ past_of m.journal.items) session → IsRunning (e ∷ past_of m.journal.items) running → moment ≡ last_moment_of (e ∷ past_of m.journal.items) →
     IsSound record { limits = m.limits; journal = journal; session = session; running = running; last_moment = moment }
-after_entry m e journal bytes session running moment sound may size room added kept runs last =
+after_entry m e journal bytes session running moment sound may placed added kept runs last =
     let next = past_of-append m.journal.items e in
     let more = text_more m.journal.items e in
     let one = length-append m.journal.items (e ∷ []) in
     rw added record {
       legal = legal-append m.journal.items e sound.legal may;
-      room = record { entries = rw next (omega (arith, one, room.entries)); text = rw next (omega (arith, more, size, room.text)) };
+      room = record { entries = rw next (omega (arith, one, placed.room.entries)); text = rw next (omega (arith, more, placed.bytes, placed.room.text)) };
       places = sound.places;
       few = sound.few;
       short = sound.short;
@@ -50,8 +49,7 @@ after_entry m e journal bytes session running moment sound may size room added k
 
 pub sound-admit : (m : Fields) (journal : Reserved Entry) (s bytes : ℕ) (input waiting : Input) → IsSound m → IsFirstOpen (past_of m.journal.items) s →
     is_ended s (past_of m.journal.items) ≡ false → in_flight_of s (past_of m.journal.items) < bound_of (mode_of s (past_of m.journal.items)) → IsCleanInput input → waiting ≡ input →
-    bytes ≡ length (entry_text_of (length m.journal.items + 1) (Admit s (admitted_of s (past_of m.journal.items) + 1) InBand input)) →
-    HasPlace (view_of m) bytes (open_count_of (past_of m.journal.items)) →
+    IsPlaced (view_of m) (Admit s (admitted_of s (past_of m.journal.items) + 1) InBand input) bytes →
     journal ≡ record m.journal { items = m.journal.items ++ Admit s (m.session.admitted + 1) InBand input ∷ [] } →
     IsSound record {
       limits = m.limits;
@@ -63,7 +61,7 @@ pub sound-admit : (m : Fields) (journal : Reserved Entry) (s bytes : ℕ) (input
       running = m.running;
       last_moment = m.last_moment;
     }
-sound-admit m journal s bytes input waiting sound first more below clean same size room added =
+sound-admit m journal s bytes input waiting sound first more below clean same placed added =
     let past = past_of m.journal.items in
     let one = first.first in
     let number : admitted_of s past ≡ m.session.admitted = rw one (sym sound.session.admitted) in
@@ -76,17 +74,16 @@ sound-admit m journal s bytes input waiting sound first more below clean same si
       below = rw one at below;
       clean = clean;
     }
-    (rw (number, one) at size) room (rw one at added) (kept-admit past m.session input (rw one at first) (none_waits 1 past (rw one at below)) sound.session) record { request = sound.running.request; of_first = sound.running.of_first } sound.moment)
+    (rw (number, one) at placed) (rw one at added) (kept-admit past m.session input (rw one at first) (none_waits 1 past (rw one at below)) sound.session) record { request = sound.running.request; of_first = sound.running.of_first } sound.moment)
 
 pub sound-done : (m : Fields) (journal : Reserved Entry) (s k bytes : ℕ) (request : Request) (reply : Json) (line : List ℕ) (moment last : ℕ) (commands : Bool) (session : Session) → IsSound m →
     running_of (past_of m.journal.items) ≡ Some request → request.session ≡ s → request.number ≡ k → s ≡ 1 →
     reply ≡ reply_to request → line ≡ printed (reply_to request) → commands ≡ (negotiates (Some request) && is_return (reply_to request)) → last ≡ max moment m.last_moment → last < 2 ^ 64 →
-    bytes ≡ length (entry_text_of (length m.journal.items + 1) (Done s k reply last)) →
-    HasPlace (view_of m) bytes (open_count_of (past_of m.journal.items)) →
+    IsPlaced (view_of m) (Done s k reply last) bytes →
     session ≡ answered m.session line commands →
     journal ≡ record m.journal { items = m.journal.items ++ Done s k reply last ∷ [] } →
     IsSound record { limits = m.limits; journal = journal; session = session; running = None; last_moment = last }
-sound-done m journal s k bytes request reply line moment last commands session sound runs named numbered one answer printing change greatest small size room said added =
+sound-done m journal s k bytes request reply line moment last commands session sound runs named numbered one answer printing change greatest small placed said added =
     let past = past_of m.journal.items in
     let later : last_moment_of past ≤ last = omega (arith, sound.moment, greatest) in
     let again : last ≡ max last (last_moment_of past) = omega (arith, later) in
@@ -98,24 +95,23 @@ sound-done m journal s k bytes request reply line moment last commands session s
       later = later;
       below = small;
     }
-    (rw (answer, one) at size) room (rw (answer, one) at added) (kept-done past m.session k (reply_to request) last commands sound.legal sound.session opens) record { request = refl; of_first = tt } again)
+    (rw (answer, one) at placed) (rw (answer, one) at added) (kept-done past m.session k (reply_to request) last commands sound.legal sound.session opens) record { request = refl; of_first = tt } again)
 
-pub sound-open : (m : Fields) (journal : Reserved Entry) (bytes : ℕ) (line : List ℕ) → IsSound m → past_of m.journal.items ≡ [] →
-    line ≡ printed greeting_value → bytes ≡ length (entry_text_of (length m.journal.items + 1) (Open 1)) →
-    HasPlace (view_of m) bytes (open_count_of (Open 1 ∷ past_of m.journal.items)) →
+pub sound-open : (m : Fields) (journal : Reserved Entry) (bytes : ℕ) (line : List ℕ) → IsSound m → sessions_of (past_of m.journal.items) ≡ [] →
+    line ≡ printed greeting_value → IsPlaced (view_of m) (Open 1) bytes →
     journal ≡ record m.journal { items = m.journal.items ++ Open 1 ∷ [] } →
     IsSound record { limits = m.limits; journal = journal; session = record (sent m.session line) { opened = true }; running = m.running; last_moment = m.last_moment }
-sound-open m journal bytes line sound none greeting size room added =
+sound-open m journal bytes line sound none greeting placed added =
     rw greeting (after_entry m (Open 1) journal bytes _ m.running m.last_moment sound
     record { next = rw none refl; few = omega arith }
-    size room added (kept-open (past_of m.journal.items) m.session none sound.session) record { request = sound.running.request; of_first = sound.running.of_first } sound.moment)
+    placed added (kept-open (past_of m.journal.items) m.session sound.legal none sound.session) record { request = sound.running.request; of_first = sound.running.of_first } sound.moment)
 
 -- a drop has kept its place
-pub drop-place : (m : Fields) (s bytes : ℕ) (cause : Cause) → IsSound m → IsFirstOpen (past_of m.journal.items) s → bytes ≤ DROP_BYTES →
-    HasPlace (view_of m) bytes (open_count_of (Drop s cause ∷ past_of m.journal.items))
-drop-place m s bytes cause sound first small =
+pub drop-place : (m : Fields) (s bytes : ℕ) (cause : Cause) → IsSound m → IsFirstOpen (past_of m.journal.items) s →
+    bytes ≡ length (entry_text_of (length m.journal.items + 1) (Drop s cause)) → bytes ≤ DROP_BYTES → IsPlaced (view_of m) (Drop s cause) bytes
+drop-place m s bytes cause sound first size small =
     let past = past_of m.journal.items in
     let one = first.first in
     let before : open_count_of past ≡ 1 = rw (first.known, first.stays) refl in
     let after : open_count_of (Drop s cause ∷ past) ≡ 0 = rw (one, first.known) refl in
-    record { entries = omega (arith, sound.room.entries, before, after); text = omega (arith, sound.room.text, before, after, small) }
+    record { bytes = size; room = record { entries = omega (arith, sound.room.entries, before, after); text = omega (arith, sound.room.text, before, after, small) } }

@@ -1,7 +1,9 @@
 -- What is kept of the first session, and one more entry.
-use Rattle.std.proofs.Common.{◌≡◌, ℕ, ◌+◌, ◌<◌, ◌==◌, ◌≢◌, Bool, true, false, not, cond, ◌&&◌, ◌||◌, Option, Some, None, List, [], ◌∷◌, length, refl, ap, sym, ◌∙◌, arith}
+use Rattle.std.proofs.Common.{◌≡◌, ℕ, ◌+◌, ◌<◌, ◌==◌, ◌≢◌, Bool, true, false, not, cond, ◌&&◌, ◌||◌, Option, Some, None, List, [], ◌∷◌, ◌++◌, length, drop, refl, ap, sym, ◌∙◌, arith}
 use Rattle.std.specs.List.{list_any}
 use Rattle.std.specs.Option.{option_to_list}
+use Rattle.std.proofs.lemmas.Bool.{or_parts}
+use Rattle.std.proofs.lemmas.List.{nil_from_length}
 use Rattle.std.proofs.lemmas.List.Folds.{list_any-append}
 use Rattle.std.proofs.lemmas.List.Sums.{sum_by-cons}
 use Rattle.std.proofs.lemmas.Bool.Decides.{nat_tests}
@@ -17,11 +19,12 @@ use Rattle.qm_core.specs.declared.entries.Entry.TheVariants.{Open, Admit, Start,
 use Rattle.qm_core.specs.declared.inputs.Input.{Input}
 use Rattle.qm_core.specs.declared.requests.Request.{Request}
 use Rattle.qm_core.specs.declared.sessions.Session.{Session}
-use Rattle.qm_core.specs.Kept.{IsSession, IsFirstOpen, Waits, answered, sent}
+use Rattle.qm_core.specs.Kept.{IsSession, IsFirstOpen, Waits, answered, fits, sent}
 use Rattle.qm_core.specs.Legal.{AllFollow}
 use Rattle.qm_core.specs.Replies.{is_return}
-use Rattle.qm_core.specs.Standing.{sessions_of, was_opened, is_open, is_dropped, admits, admitted_of, in_flight_of, mode_of, waiting_of, running_of, negotiates}
-use Rattle.qm_core.specs.Transcript.{Candidate, candidates_of, has_overrun, taken_of, with_line}
+use Rattle.qm_core.specs.Standing.{sessions_of, was_opened, is_open, is_dropped, open_count_of, admits, admitted_of, in_flight_of, mode_of, waiting_of, running_of, negotiates}
+use Rattle.qm_core.specs.Transcript.{Candidate, candidates_of, has_overrun, taken_of, untaken_of, with_line}
+use Rattle.qm_core.proofs.Candidates.{any_overruns, kept_lines}
 use Rattle.qm_core.proofs.Journals.{dropped_opened}
 use Rattle.qm_core.proofs.Transcripts.{none-untaken, sent-more}
 
@@ -52,13 +55,9 @@ bound-mode s (Take t lines ∷ past) = bound-mode s past
 bound-mode s (Eof t ∷ past) = bound-mode s past
 bound-mode s (Drop t cause ∷ past) = bound-mode s past
 
-no_length : {A : Type 0} (xs : List A) → length xs ≡ 0 → xs ≡ []
-no_length [] h = refl
-no_length (x ∷ xs) h = absurd (omega (arith, h))
-
 -- below the bound, none waits
 pub none_waits : (s : ℕ) (past : List Entry) → in_flight_of s past < bound_of (mode_of s past) → waiting_of s past ≡ []
-none_waits s past below = no_length (waiting_of s past) (omega (arith, below, bound-mode s past))
+none_waits s past below = nil_from_length (waiting_of s past) (omega (arith, below, bound-mode s past))
 
 pub kept-admit : (past : List Entry) (session : Session) (input : Input) → IsFirstOpen past 1 → waiting_of 1 past ≡ [] → IsSession past session →
     IsSession (Admit 1 (session.admitted + 1) InBand input ∷ past) (record session {
@@ -86,11 +85,22 @@ open-kept past session kept = rw (kept.known, kept.dropped) (known session.opene
   known true stays = refl
   known false stays = refl
 
-answered-as : (past : List Entry) (session : Session) (k : ℕ) (reply : Json) (moment : ℕ) (commands b : Bool) → AllFollow past → IsSession past session →
-    commands ≡ (negotiates (running_of past) && is_return reply) → is_open 1 past ≡ b →
-    IsSession (Done 1 k reply moment ∷ past) (let after = cond b (sent session (printed reply)) session in record after { mode = cond commands Command after.mode })
-answered-as past session k reply moment commands true legal kept change opens =
-    let more = sent-more 1 past (printed reply) legal in
+-- the lines that a session may be sent, with one more where it is open
+abbrev may_have : Bool → ℕ → List Entry → List ℕ → List Candidate
+may_have b s past line = cond b (with_line (candidates_of s past) (taken_of s past) line) (candidates_of s past)
+
+sent-where : (b : Bool) (s : ℕ) (past : List Entry) (line : List ℕ) → AllFollow past →
+    (cond b (has_overrun s past || not (fits (untaken_of s past) line)) (has_overrun s past) ≡ any_overruns (may_have b s past line))
+    × (cond b (cond (not (has_overrun s past) && fits (untaken_of s past) line) (untaken_of s past ++ line ∷ []) (untaken_of s past)) (untaken_of s past)
+    ≡ drop (length (taken_of s past)) (kept_lines (may_have b s past line)))
+sent-where true s past line legal = let more = sent-more s past line legal in (sym more.0, sym more.1)
+sent-where false s past line legal = (refl, refl)
+
+pub kept-done : (past : List Entry) (session : Session) (k : ℕ) (reply : Json) (moment : ℕ) (commands : Bool) → AllFollow past → IsSession past session →
+    commands ≡ (negotiates (running_of past) && is_return reply) → IsSession (Done 1 k reply moment ∷ past) (answered session (printed reply) commands)
+kept-done past session k reply moment commands legal kept change =
+    let more = sent-where (is_open 1 past) 1 past (printed reply) legal in
+    let opens : (session.opened && not session.dropped) ≡ is_open 1 past = sym (open-kept past session kept) in
     record {
       known = kept.known;
       dropped = kept.dropped;
@@ -99,47 +109,34 @@ answered-as past session k reply moment commands true legal kept change opens =
       mode = rw (change, kept.mode) refl;
       waiting = kept.waiting;
       waits = kept.waits;
-      outbox = rw (opens, kept.outbox, kept.overrun) (sym more.1);
-      overrun = rw (opens, kept.outbox, kept.overrun) (sym more.0);
+      outbox = rw (opens, kept.outbox, kept.overrun) more.1;
+      overrun = rw (opens, kept.outbox, kept.overrun) more.0;
     }
-answered-as past session k reply moment commands false legal kept change opens = record {
-  known = kept.known;
-  dropped = kept.dropped;
-  ended = kept.ended;
-  admitted = kept.admitted;
-  mode = rw (change, kept.mode) refl;
-  waiting = kept.waiting;
-  waits = kept.waits;
-  outbox = rw opens kept.outbox;
-  overrun = rw opens kept.overrun;
-}
 
-pub kept-done : (past : List Entry) (session : Session) (k : ℕ) (reply : Json) (moment : ℕ) (commands : Bool) → AllFollow past → IsSession past session →
-    commands ≡ (negotiates (running_of past) && is_return reply) → IsSession (Done 1 k reply moment ∷ past) (answered session (printed reply) commands)
-kept-done past session k reply moment commands legal kept change =
-    answered-as past session k reply moment commands (session.opened && not session.dropped) legal kept change (open-kept past session kept)
-
-no_waiting : (past : List Entry) (waiting : Option Request) → option_to_list waiting ≡ [] → Waits past waiting
-no_waiting past None e = tt
-no_waiting past (Some q) e = absurd cc
+no_waits : (past : List Entry) (waiting : Option Request) → sessions_of past ≡ [] → Waits past waiting → Waits (Open 1 ∷ past) waiting
+no_waits past None none waits = tt
+no_waits past (Some q) none waits = absurd (let h : is_open 1 past ≡ true = waits.1 in let no = rw none at h in cc)
 
 -- the first session is opened
-pub kept-open : (past : List Entry) (session : Session) → past ≡ [] → IsSession past session →
+pub kept-open : (past : List Entry) (session : Session) → AllFollow past → sessions_of past ≡ [] → IsSession past session →
     IsSession (Open 1 ∷ past) (record (sent session (printed greeting_value)) { opened = true })
-kept-open past session none kept =
-    let more = sent-more 1 [] (printed greeting_value) tt in
-    let empty = rw none at kept in
-    rw none record {
-      known = refl;
-      dropped = empty.dropped;
-      ended = empty.ended;
-      admitted = empty.admitted;
-      mode = empty.mode;
-      waiting = empty.waiting;
-      waits = no_waiting (Open 1 ∷ []) session.waiting empty.waiting;
-      outbox = rw (empty.outbox, empty.overrun) (sym more.1);
-      overrun = rw (empty.outbox, empty.overrun) (sym more.0);
+kept-open past session legal none kept =
+    let more = sent-more 1 past (printed greeting_value) legal in
+    record {
+      known = rw none refl;
+      dropped = kept.dropped;
+      ended = kept.ended;
+      admitted = kept.admitted;
+      mode = kept.mode;
+      waiting = kept.waiting;
+      waits = no_waits past session.waiting none kept.waits;
+      outbox = rw (kept.outbox, kept.overrun) (sym more.1);
+      overrun = rw (kept.outbox, kept.overrun) (sym more.0);
     }
+
+-- it is then the only one that is open
+pub count_open : (past : List Entry) → AllFollow past → sessions_of past ≡ [] → open_count_of (Open 1 ∷ past) ≡ 1
+count_open past legal none = rw (none, not_dropped 1 past legal (rw none refl)) refl
 
 -- all lines are handed out
 pub kept-take : (past : List Entry) (session : Session) (lines : List (List ℕ)) → AllFollow past → IsSession past session → lines ≡ session.outbox →
@@ -156,16 +153,12 @@ kept-take past session lines legal kept all = record {
   overrun = kept.overrun;
 }
 
-or_none : (a b : Bool) → (a || b) ≡ false → (a ≡ false) × (b ≡ false)
-or_none true b h = absurd cc
-or_none false b h = (refl, h)
-
 -- a session that was not opened is sent nothing
 no_candidates : (s : ℕ) (past : List Entry) → was_opened s past ≡ false → candidates_of s past ≡ []
 no_candidates s [] none = refl
 no_candidates s (Open t ∷ past) none =
-    let parts = or_none (was_opened s past) ((t == s) || false) (sym (list_any-append (λ u. u == s) (sessions_of past) (t ∷ [])) ∙ none) in
-    rw ((or_none (t == s) false parts.1).0) (no_candidates s past parts.0)
+    let parts = or_parts (was_opened s past) ((t == s) || false) (sym (list_any-append (λ u. u == s) (sessions_of past) (t ∷ [])) ∙ none) in
+    rw ((or_parts (t == s) false parts.1).0) (no_candidates s past parts.0)
 no_candidates s (Admit t k lane input ∷ past) none = no_candidates s past none
 no_candidates s (Start t k ∷ past) none = no_candidates s past none
 no_candidates s (Done t k reply moment ∷ past) none = closed (t == s) (was_opened s past) none (no_candidates s past none) where

@@ -1,46 +1,33 @@
 -- The room of a journal for one more entry.
-use Rattle.std.proofs.Common.{◌≡◌, ℕ, ◌+◌, ◌*◌, ◌≤◌, nat_le, Bool, cond, ◌&&◌, Option, Some, None, List, ◌∷◌, length, Result, Ok, Err, IfOk, ap, sym, subst, ◌∙◌, arith}
+use Rattle.std.proofs.Common.{◌≡◌, ℕ, ◌+◌, ◌*◌, ◌≤◌, nat_le, Bool, ◌&&◌, List, ◌∷◌, length, Result, Ok, Err, IfOk, refl, ap, sym, subst, ◌∙◌, arith}
 use Rattle.std.specs.Result.{result_err}
 use Rattle.std.proofs.lemmas.Bool.Decides.{nat_tests}
-use Rattle.std.proofs.lemmas.List.{length-reverse}
+use Rattle.std.proofs.lemmas.List.{length-reverse, reverse-reverse}
 use Rattle.qm_json.specs.Printing.{capped}
-use Rattle.qm_core.specs.Kept.{HasPlace, Placed, room_refusal}
+use Rattle.qm_core.specs.Kept.{HasPlace, IsPlaced, Placed, has_place}
 use Rattle.qm_core.specs.Legal.{past_of}
-use Rattle.qm_core.specs.Next.{View, full_refusal}
+use Rattle.qm_core.specs.Next.{View, full_refusal, full_unless}
 use Rattle.qm_core.specs.Standing.{open_count_of}
 use Rattle.qm_core.specs.Texts.{entry_text_of, text_of}
 use Rattle.qm_core.specs.declared.TheConstants.{DROP_BYTES, MOST_TEXT}
 use Rattle.qm_core.specs.declared.entries.Entry.{Entry}
 use Rattle.qm_core.specs.declared.entries.StepFault.{StepFault}
-use Rattle.qm_core.specs.declared.entries.StepFault.TheVariants.{JournalFull}
-use Rattle.qm_core.proofs.Texts.{reverse-reverse}
 
 -- a length past 64 bits is past the limit
 same_test : (before bytes kept most : ℕ) → most ≤ MOST_TEXT → nat_le (before + capped bytes + kept) most ≡ nat_le (before + bytes + kept) most
 same_test before bytes kept most short = grind (arith, nat_tests)
 
--- what says whether an entry has its place
-abbrev refusal_by : ℕ → ℕ → ℕ → ℕ → ℕ → ℕ → Option StepFault
-refusal_by count opened entries before bytes most =
-    cond (nat_le (count + 1 + opened) entries && nat_le (before + bytes + DROP_BYTES * opened) most) None (Some JournalFull)
-
 full-is : (m : View) (e : Entry) →
-    full_refusal m.limits (past_of m.journal) e
-    ≡ refusal_by (length m.journal) (open_count_of (e ∷ past_of m.journal)) m.limits.entries (length (text_of m.journal)) (length (entry_text_of (length m.journal + 1) e)) m.limits.text
-full-is m e =
-    let opened = open_count_of (e ∷ past_of m.journal) in
-    ap (λ (j : List Entry). refusal_by (length (past_of m.journal)) opened m.limits.entries (length (text_of j)) (length (entry_text_of (length (past_of m.journal) + 1) e)) m.limits.text) (reverse-reverse m.journal)
-    ∙ ap (λ (n : ℕ). refusal_by n opened m.limits.entries (length (text_of m.journal)) (length (entry_text_of (n + 1) e)) m.limits.text) (length-reverse m.journal)
+    full_refusal m.limits (past_of m.journal) e ≡ full_unless (has_place m (length (entry_text_of (length m.journal + 1) e)) (open_count_of (e ∷ past_of m.journal)))
+full-is m e = rw (reverse-reverse m.journal, length-reverse m.journal) refl
 
 room-full : (m : View) (e : Entry) (bytes opened : ℕ) → m.limits.text ≤ MOST_TEXT → bytes ≡ capped (length (entry_text_of (length m.journal + 1) e)) →
-    opened ≡ open_count_of (e ∷ past_of m.journal) → room_refusal m bytes opened ≡ full_refusal m.limits (past_of m.journal) e
+    opened ≡ open_count_of (e ∷ past_of m.journal) → full_unless (has_place m bytes opened) ≡ full_refusal m.limits (past_of m.journal) e
 room-full m e bytes opened short size count =
     let exact = length (entry_text_of (length m.journal + 1) e) in
     let before = length (text_of m.journal) in
-    ap (λ (n : ℕ). refusal_by (length m.journal) opened m.limits.entries before n m.limits.text) size
-    ∙ ap (λ (t : Bool). cond {A = Option StepFault} (nat_le (length m.journal + 1 + opened) m.limits.entries && t) None (Some JournalFull)) (same_test before exact (DROP_BYTES * opened) m.limits.text short)
-    ∙ ap (λ (o : ℕ). refusal_by (length m.journal) o m.limits.entries before exact m.limits.text) count
-    ∙ sym (full-is m e)
+    rw (size, count) (ap (λ (t : Bool). full_unless (nat_le (length m.journal + 1 + open_count_of (e ∷ past_of m.journal)) m.limits.entries && t))
+    (same_test before exact (DROP_BYTES * open_count_of (e ∷ past_of m.journal)) m.limits.text short) ∙ sym (full-is m e))
 
 uncapped : (bytes before kept most : ℕ) → before + capped bytes + kept ≤ most → most ≤ MOST_TEXT → capped bytes ≡ bytes
 uncapped bytes before kept most within short = omega (arith, within, short)
@@ -48,7 +35,7 @@ uncapped bytes before kept most within short = omega (arith, within, short)
 -- the room that was found is that of the entry
 pub placed : (m : View) (e : Entry) (at bytes opened : ℕ) (result : Result ℕ StepFault) → m.limits.text ≤ MOST_TEXT →
     at ≡ length m.journal + 1 → bytes ≡ capped (length (entry_text_of at e)) → opened ≡ open_count_of (e ∷ past_of m.journal) →
-    result_err result ≡ room_refusal m bytes opened → IfOk result (λ n. n ≡ bytes) → IfOk result (λ n. HasPlace m n opened) → Placed m e result
+    result_err result ≡ full_unless (has_place m bytes opened) → IfOk result (λ n. n ≡ bytes) → IfOk result (λ n. HasPlace m n opened) → Placed m e result
 placed m e at bytes opened (Ok n) short number said count fault value room =
     let size = subst (λ (n : ℕ). bytes ≡ capped (length (entry_text_of n e))) number said in
     let exact = length (entry_text_of (length m.journal + 1) e) in
@@ -56,9 +43,8 @@ placed m e at bytes opened (Ok n) short number said count fault value room =
     let within : length (text_of m.journal) + capped exact + DROP_BYTES * opened ≤ m.limits.text = rw is at room.text in
     record {
       fault = fault ∙ room-full m e bytes opened short size count;
-      bytes = is ∙ uncapped exact (length (text_of m.journal)) (DROP_BYTES * opened) m.limits.text within short;
-      room = rw (← count) room;
+      placed = record { bytes = is ∙ uncapped exact (length (text_of m.journal)) (DROP_BYTES * opened) m.limits.text within short; room = rw (← count) room };
     }
 placed m e at bytes opened (Err f) short number said count fault value room =
     let size = subst (λ (n : ℕ). bytes ≡ capped (length (entry_text_of n e))) number said in
-    record { fault = fault ∙ room-full m e bytes opened short size count; bytes = tt; room = tt }
+    record { fault = fault ∙ room-full m e bytes opened short size count; placed = tt }

@@ -1,53 +1,41 @@
 -- The entry of a step that is not refused may come next.
-use Rattle.std.proofs.Common.{◌≡◌, ℕ, ◌^◌, ◌<◌, Bool, true, false, cond, ◌&&◌, ◌||◌, Option, Some, None, is_some, is_none, List, [], ◌∷◌, length, nat_le, ◌==◌, refl, ap, sym, ◌∙◌, arith}
+use Rattle.std.proofs.Common.{◌≡◌, ℕ, ◌^◌, ◌<◌, Bool, true, false, not, ◌&&◌, ◌||◌, Option, Some, None, is_some, is_none, List, [], ◌∷◌, length, nat_le, ◌==◌, refl, ap, sym, ◌∙◌, arith}
+use Rattle.std.specs.Bool.{if◌then◌else◌}
+use Rattle.std.specs.Option.{option_or}
+use Rattle.std.proofs.lemmas.Bool.{and_parts}
 use Rattle.std.proofs.lemmas.Bool.Decides.{nat_tests, Decides-eqb}
 use Rattle.qm_caps.specs.Modes.{bound_of}
 use Rattle.qm_core.specs.declared.TheConstants.{MOST_SESSIONS}
-use Rattle.qm_core.specs.declared.entries.Cause.{Cause}
-use Rattle.qm_core.specs.declared.entries.Cause.TheVariants as cause
 use Rattle.qm_core.specs.declared.entries.Entry.{Entry}
 use Rattle.qm_core.specs.declared.entries.Entry.TheVariants as entry
 use Rattle.qm_core.specs.declared.entries.StepFault.{StepFault}
-use Rattle.qm_core.specs.declared.entries.StepFault.TheVariants.{NoSession, Closed, InputEnded, Busy, Nothing, NotRunning, NotDrained, WrongCause, SessionsFull}
+use Rattle.qm_core.specs.declared.entries.StepFault.TheVariants.{NoSession, Closed, InputEnded, Busy, Nothing, NotRunning, SessionsFull}
 use Rattle.qm_core.specs.declared.monitor.Limits.{Limits}
 use Rattle.qm_core.specs.declared.requests.Request.{Request}
 use Rattle.qm_core.specs.declared.requests.RequestName.{RequestName}
-use Rattle.qm_core.specs.Drained.{is_drained}
 use Rattle.qm_core.specs.Legal.{past_of, AllFollow, IsLegal}
-use Rattle.qm_core.specs.Next.{Next, View, Step, Open, Admit, Start, Finish, Take, End, Drop, IsCleanStep, entry_of, start_entry, refusal_of, full_refusal, session_refusal, cause_refusal, names, is_running}
-use Rattle.qm_core.specs.Order.{MayFollow, Holds}
+use Rattle.qm_core.specs.Next.{Next, View, Step, Open, Admit, Start, Finish, Take, End, Drop, IsCleanStep, entry_of, start_entry, refusal_of, full_refusal, session_refusal, cause_fault, names, is_running}
+use Rattle.qm_core.specs.Order.{MayFollow, cause_holds}
 use Rattle.qm_core.specs.Standing.{sessions_of, was_opened, is_dropped, is_ended, is_open, in_flight_of, mode_of, running_of, starting_of, named_of, last_moment_of}
-use Rattle.qm_core.specs.Transcript.{has_overrun, untaken_of}
+use Rattle.qm_core.specs.Transcript.{untaken_of}
 use Rattle.qm_core.proofs.Journals.{legal-append}
 
 -- a refusal that did not come
-passed : (test : Bool) (fault : StepFault) (others : Option StepFault) → None ≡ cond test (Some fault) others → (test ≡ false) × (None ≡ others)
+passed : (test : Bool) (fault : StepFault) (others : Option StepFault) → None ≡ (if test then Some fault else others) → (test ≡ false) × (None ≡ others)
 passed true fault others h = absurd cc
 passed false fault others h = (refl, h)
 
-held : (test : Bool) (fault : StepFault) (others : Option StepFault) → None ≡ cond test others (Some fault) → (test ≡ true) × (None ≡ others)
+held : (test : Bool) (fault : StepFault) (others : Option StepFault) → None ≡ (if test then others else Some fault) → (test ≡ true) × (None ≡ others)
 held true fault others h = (refl, h)
 held false fault others h = absurd cc
 
 open_first : (s : ℕ) (past : List Entry) (others : Option StepFault) → None ≡ session_refusal s past others → (is_open s past ≡ true) × (None ≡ others)
-open_first s past others h =
-    let known = held (was_opened s past) NoSession (cond (is_dropped s past) (Some Closed) others) h in
-    let stays = passed (is_dropped s past) Closed others known.1 in
-    (rw (known.0, stays.0) refl, stays.1)
-
-both : (a b : Bool) → (a && b) ≡ true → (a ≡ true) × (b ≡ true)
-both true b h = (refl, h)
-both false b h = absurd cc
-
-drops_for : (past : List Entry) (s : ℕ) (why : Cause) → None ≡ cause_refusal why (is_drained s past) (has_overrun s past) → Holds past s why
-drops_for past s cause.Ended h = (held (is_drained s past) NotDrained None h).0
-drops_for past s cause.Stopped h = absurd cc
-drops_for past s cause.Overrun h = (held (has_overrun s past) WrongCause None h).0
-drops_for past s cause.ReadFault h = tt
-drops_for past s cause.WriteFault h = tt
-drops_for past s cause.Limit h = tt
-drops_for past s cause.Memory h = tt
-drops_for past s cause.Halted h = tt
+open_first s past others h = opened (was_opened s past) (is_dropped s past) h where
+  opened : (known dropped : Bool) → None ≡ option_or (if known then (if dropped then Some Closed else None) else Some NoSession) others →
+      ((known && not dropped) ≡ true) × (None ≡ others)
+  opened true true h = absurd cc
+  opened true false h = (refl, h)
+  opened false dropped h = absurd cc
 
 starts : (past : List Entry) (running starting : Option Request) → running ≡ running_of past → starting ≡ starting_of past → (is_some running || is_none starting) ≡ false → MayFollow past (start_entry (named_of starting))
 starts past None None runs turn h = absurd cc
@@ -57,7 +45,7 @@ starts past (Some q) starting runs turn h = absurd cc
 named_is : (s k : ℕ) (running : Option RequestName) → names s k running ≡ true → running ≡ Some record { session = s; number = k }
 named_is s k None h = absurd cc
 named_is s k (Some q) h =
-    let same = both _ _ h in
+    let same = and_parts _ _ h in
     let session : q.session ≡ s = (Decides-eqb q.session s).0 same.0 in
     let number : q.number ≡ k = (Decides-eqb q.number k).0 same.1 in
     ap (λ (n : ℕ). Some record { session = n; number = q.number }) session ∙ ap (λ (n : ℕ). Some record { session = s; number = n }) number
@@ -78,24 +66,24 @@ may_follow limits past Open small clean h = (let few = (passed (nat_le MOST_SESS
 may_follow limits past (Admit s input) small clean h =
     (let full = full_refusal limits past (entry_of past (Admit s input)) in
     let busy = nat_le (bound_of (mode_of s past)) (in_flight_of s past) in
-    let first = open_first s past (cond (is_ended s past) (Some InputEnded) (cond busy (Some Busy) full)) h in
-    let more = passed (is_ended s past) InputEnded (cond busy (Some Busy) full) first.1 in
+    let first = open_first s past (if is_ended s past then Some InputEnded else if busy then Some Busy else full) h in
+    let more = passed (is_ended s past) InputEnded (if busy then Some Busy else full) first.1 in
     let below : busy ≡ false = (passed busy Busy full more.1).0 in
     record { is_open = first.0; more = more.0; next = refl; in_band = refl; below = grind (arith, nat_tests, below); clean = clean })
 may_follow limits past Start small clean h = starts past (running_of past) (starting_of past) refl refl (passed (is_some (running_of past) || is_none (starting_of past)) Nothing (full_refusal limits past (entry_of past Start)) h).0
 may_follow limits past (Finish s k moment) small clean h = record { running = named_is s k (named_of (running_of past)) (held (is_running s k past) NotRunning (full_refusal limits past (entry_of past (Finish s k moment))) h).0; answer = refl; later = omega arith; below = omega (arith, small, clean) }
 may_follow limits past (Take s) small clean h =
     (let full = full_refusal limits past (entry_of past (Take s)) in
-    let first = open_first s past (cond (length (untaken_of s past) == 0) (Some Nothing) full) h in
+    let first = open_first s past (if length (untaken_of s past) == 0 then Some Nothing else full) h in
     let some : (length (untaken_of s past) == 0) ≡ false = (passed (length (untaken_of s past) == 0) Nothing full first.1).0 in
     record { is_open = first.0; some = grind (arith, nat_tests, some); all = refl })
 may_follow limits past (End s) small clean h =
     (let full = full_refusal limits past (entry_of past (End s)) in
-    let first = open_first s past (cond (is_ended s past) (Some InputEnded) full) h in
+    let first = open_first s past (if is_ended s past then Some InputEnded else full) h in
     record { is_open = first.0; more = (passed (is_ended s past) InputEnded full first.1).0 })
 may_follow limits past (Drop s why) small clean h =
-    (let first = open_first s past (cause_refusal why (is_drained s past) (has_overrun s past)) h in
-    record { is_open = first.0; holds = drops_for past s why first.1 })
+    (let first = open_first s past (if cause_holds past s why then None else Some (cause_fault why)) h in
+    record { is_open = first.0; holds = (held (cause_holds past s why) (cause_fault why) None first.1).0 })
 
 pub next_legal : (old : View) (step : Step) (fault : Option StepFault) (new : View) → Next old step fault new → IsCleanStep step → IsLegal old.journal → IsLegal new.journal
 next_legal old step (Some f) new next clean legal = rw next.journal legal

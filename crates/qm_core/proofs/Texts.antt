@@ -1,8 +1,8 @@
 -- The text of a journal and one more entry, and the lengths of lines.
-use Rattle.std.proofs.Common.{◌≡◌, ℕ, ◌+◌, List, [], ◌∷◌, ◌++◌, length, reverse, refl, ap, ◌∙◌, append-nil, append_assoc, arith}
+use Rattle.std.proofs.Common.{◌≡◌, ℕ, ◌+◌, List, [], ◌∷◌, ◌++◌, length, refl, ap, ◌∙◌, append-nil, append_assoc, arith}
 use Rattle.std.specs.Fmt.{decimal}
 use Rattle.std.specs.List.{flat_map}
-use Rattle.std.proofs.lemmas.List.{length-append, reverse-append}
+use Rattle.std.proofs.lemmas.List.{length-append}
 use Rattle.std.proofs.lemmas.Grind.{flat_map-append}
 use Rattle.qm_core.specs.Texts.{text_from, text_of, entry_text_of, taken_text_of}
 use Rattle.qm_core.specs.Transcript.{wire_of}
@@ -20,10 +20,6 @@ text_of-more journal e = grind (arith, text_from-append 1 journal (e ∷ []), ap
 
 pub text_more : (journal : List Entry) (e : Entry) → length (text_of (journal ++ e ∷ [])) ≡ length (text_of journal) + length (entry_text_of (length journal + 1) e)
 text_more journal e = ap (λ (t : List ℕ). length t) (text_of-more journal e) ∙ length-append (text_of journal) (entry_text_of (length journal + 1) e)
-
-pub reverse-reverse : {A : Type 0} (xs : List A) → reverse (reverse xs) ≡ xs
-reverse-reverse [] = refl
-reverse-reverse (x ∷ xs) = ap reverse (reverse-append (x ∷ []) xs) ∙ reverse-append (reverse xs) (x ∷ []) ∙ ap (λ l. x ∷ l) (reverse-reverse xs)
 
 pub wire-append : (lines others : List (List ℕ)) → length (wire_of (lines ++ others)) ≡ length (wire_of lines) + length (wire_of others)
 wire-append lines others = ap (λ (t : List ℕ). length t) (flat_map-append (λ line. line ++ 13 ∷ 10 ∷ []) lines others) ∙ length-append (wire_of lines) (wire_of others)

@@ -17,25 +17,15 @@ IsCleanInput (Doc value) = IsClean value
 IsCleanInput (Bad bad) = Unit {0}
 
 abbrev pub layer_is_object : Json-F Json Member → Bool
-layer_is_object layer.Json-F.Null = false
-layer_is_object (layer.Json-F.Bool b) = false
-layer_is_object (layer.Json-F.Int n) = false
-layer_is_object (layer.Json-F.Num text) = false
-layer_is_object (layer.Json-F.Str bytes) = false
-layer_is_object (layer.Json-F.Arr items) = false
 layer_is_object (layer.Json-F.Obj members) = true
+layer_is_object _ = false
 
 abbrev pub is_object : Json → Bool
 is_object value = layer_is_object (out-Json value)
 
 abbrev pub layer_string : Json-F Json Member → Option (List ℕ)
-layer_string layer.Json-F.Null = None
-layer_string (layer.Json-F.Bool b) = None
-layer_string (layer.Json-F.Int n) = None
-layer_string (layer.Json-F.Num text) = None
 layer_string (layer.Json-F.Str bytes) = Some bytes
-layer_string (layer.Json-F.Arr items) = None
-layer_string (layer.Json-F.Obj members) = None
+layer_string _ = None
 
 -- the bytes of a string
 abbrev pub string_of : Json → Option (List ℕ)

@@ -1,18 +1,17 @@
 -- What the fields of a monitor keep of its journal (this project's own rule). One session is opened at
 -- most, the first.
-use Rattle.std.specs.Prelude.{◌≡◌, ℕ, ◌+◌, ◌*◌, ◌≤◌, nat_le, Bool, false, true, not, cond, ◌&&◌, ◌||◌, List, [], ◌∷◌, ◌++◌, length, Option, Some, None, IfSome, Result, IfOk}
+use Rattle.std.specs.Prelude.{◌≡◌, ℕ, ◌+◌, ◌≤◌, nat_le, Bool, false, true, not, if◌then◌else◌, ◌&&◌, ◌||◌, List, [], ◌∷◌, ◌++◌, length, Option, None, IfSome, Result, IfOk}
 use Rattle.std.specs.Option.{option_to_list}
 use Rattle.std.specs.Result.{result_err}
 use Rattle.qm_caps.specs.declared.mode.Mode.TheVariants.{Command, Negotiating}
-use Rattle.qm_core.specs.Legal.{past_of, IsLegal, HasRoom}
+use Rattle.qm_core.specs.Legal.{past_of, IsLegal, HasRoom, IsWithin, is_within}
 use Rattle.qm_core.specs.Next.{View, Step, full_refusal, refusal_of}
 use Rattle.qm_core.specs.Standing.{sessions_of, is_open, is_dropped, is_ended, open_count_of, admitted_of, mode_of, waiting_of, running_of, last_moment_of}
 use Rattle.qm_core.specs.Texts.{entry_text_of, text_of}
 use Rattle.qm_core.specs.Transcript.{has_overrun, untaken_of, wire_of}
-use Rattle.qm_core.specs.declared.TheConstants.{DROP_BYTES, MOST_ENTRIES, MOST_TEXT, MOST_UNTAKEN}
+use Rattle.qm_core.specs.declared.TheConstants.{MOST_ENTRIES, MOST_TEXT, MOST_UNTAKEN}
 use Rattle.qm_core.specs.declared.entries.Entry.{Entry}
 use Rattle.qm_core.specs.declared.entries.StepFault.{StepFault}
-use Rattle.qm_core.specs.declared.entries.StepFault.TheVariants.{JournalFull}
 use Rattle.qm_core.specs.declared.monitor.Monitor.TheInside.{Inside as Fields}
 use Rattle.qm_core.specs.declared.requests.Request.{Request}
 use Rattle.qm_core.specs.declared.sessions.Session.{Session}
@@ -34,7 +33,7 @@ Waits past request = IfSome request (λ q. (q.session ≡ 1) × (is_open 1 past 
 
 -- what is kept of the first session
 pub record IsSession (past : List Entry) (session : Session) : Type 0 where
-  pub known : sessions_of past ≡ cond session.opened (1 ∷ []) []
+  pub known : sessions_of past ≡ (if session.opened then 1 ∷ [] else [])
   pub dropped : session.dropped ≡ is_dropped 1 past
   pub ended : session.ended ≡ is_ended 1 past
   pub admitted : session.admitted ≡ admitted_of 1 past
@@ -65,21 +64,21 @@ abbrev pub refusal_in : View → Step → Option StepFault
 refusal_in m step = refusal_of m.limits (past_of m.journal) step
 
 -- there is room for an entry of so many bytes, after which so many sessions are open
-pub record HasPlace (m : View) (bytes opened : ℕ) : Type 0 where
-  pub entries : length m.journal + 1 + opened ≤ m.limits.entries
-  pub text : length (text_of m.journal) + bytes + DROP_BYTES * opened ≤ m.limits.text
+abbrev pub HasPlace : View → ℕ → ℕ → Type 0
+HasPlace m bytes opened = IsWithin m.limits (length m.journal + 1) (length (text_of m.journal) + bytes) opened
 
--- the refusal without that room
-abbrev pub room_refusal : View → ℕ → ℕ → Option StepFault
-room_refusal m bytes opened =
-    cond (nat_le (length m.journal + 1 + opened) m.limits.entries && nat_le (length (text_of m.journal) + bytes + DROP_BYTES * opened) m.limits.text)
-    None (Some JournalFull)
+abbrev pub has_place : View → ℕ → ℕ → Bool
+has_place m bytes opened = is_within m.limits (length m.journal + 1) (length (text_of m.journal) + bytes) opened
+
+-- the entry has so many bytes, and there is room for it
+pub record IsPlaced (m : View) (e : Entry) (n : ℕ) : Type 0 where
+  pub bytes : n ≡ length (entry_text_of (length m.journal + 1) e)
+  pub room : HasPlace m n (open_count_of (e ∷ past_of m.journal))
 
 -- the room for an entry was looked for: the bytes of its text, or that the journal is full
 pub record Placed (m : View) (e : Entry) (result : Result ℕ StepFault) : Type 0 where
   pub fault : result_err result ≡ full_refusal m.limits (past_of m.journal) e
-  pub bytes : IfOk result (λ n. n ≡ length (entry_text_of (length m.journal + 1) e))
-  pub room : IfOk result (λ n. HasPlace m n (open_count_of (e ∷ past_of m.journal)))
+  pub placed : IfOk result (IsPlaced m e)
 
 -- the line fits into an outbox
 abbrev pub fits : List (List ℕ) → List ℕ → Bool
@@ -88,15 +87,17 @@ fits outbox line = nat_le (length (wire_of (outbox ++ line ∷ []))) MOST_UNTAKE
 -- a session that is sent a line, which it gets where no line overran and this one fits
 abbrev pub sent : Session → List ℕ → Session
 sent session line = record session {
-  outbox = cond (not session.overrun && fits session.outbox line) (session.outbox ++ line ∷ []) session.outbox;
+  outbox = if not session.overrun && fits session.outbox line then session.outbox ++ line ∷ [] else session.outbox;
   overrun = session.overrun || not (fits session.outbox line);
 }
 
--- a session after a reply, which may open the command mode
+-- a session after a reply: it is sent the line while it is open, and may open the command mode
 abbrev pub answered : Session → List ℕ → Bool → Session
-answered session line commands =
-    let after = cond (session.opened && not session.dropped) (sent session line) session in
-    record after { mode = cond commands Command after.mode }
+answered session line commands = record session {
+  mode = if commands then Command else session.mode;
+  outbox = if session.opened && not session.dropped then (sent session line).outbox else session.outbox;
+  overrun = if session.opened && not session.dropped then (sent session line).overrun else session.overrun;
+}
 
 -- the session is the first, and open
 pub record IsFirstOpen (past : List Entry) (s : ℕ) : Type 0 where

@@ -1,5 +1,5 @@
 -- Legal journals, and the room of a journal (this project's own rule).
-use Rattle.std.specs.Prelude.{◌+◌, ◌*◌, ◌≤◌, List, [], ◌∷◌, length, reverse}
+use Rattle.std.specs.Prelude.{ℕ, ◌+◌, ◌*◌, ◌≤◌, nat_le, Bool, ◌&&◌, List, [], ◌∷◌, length, reverse}
 use Rattle.qm_core.specs.Order.{MayFollow}
 use Rattle.qm_core.specs.Standing.{open_count_of}
 use Rattle.qm_core.specs.Texts.{text_of}
@@ -19,7 +19,16 @@ AllFollow (e ∷ past) = MayFollow past e × AllFollow past
 abbrev pub IsLegal : List Entry → Type 0
 IsLegal journal = AllFollow (past_of journal)
 
--- each open session has kept the place of its drop, and the bytes of its line
-pub record HasRoom (limits : Limits) (journal : List Entry) : Type 0 where
-  pub entries : length journal + open_count_of (past_of journal) ≤ limits.entries
-  pub text : length (text_of journal) + DROP_BYTES * open_count_of (past_of journal) ≤ limits.text
+-- so many entries and bytes are within the limits, with what is kept for the drop of each open session:
+-- a place, and the bytes of its line
+pub record IsWithin (limits : Limits) (count bytes opened : ℕ) : Type 0 where
+  pub entries : count + opened ≤ limits.entries
+  pub text : bytes + DROP_BYTES * opened ≤ limits.text
+
+-- the test of that
+abbrev pub is_within : Limits → ℕ → ℕ → ℕ → Bool
+is_within limits count bytes opened = nat_le (count + opened) limits.entries && nat_le (bytes + DROP_BYTES * opened) limits.text
+
+-- a journal is within the limits
+abbrev pub HasRoom : Limits → List Entry → Type 0
+HasRoom limits journal = IsWithin limits (length journal) (length (text_of journal)) (open_count_of (past_of journal))

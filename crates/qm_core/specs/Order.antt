@@ -1,5 +1,5 @@
 -- Which entry may come next (this project's own rule).
-use Rattle.std.specs.Prelude.{◌≡◌, ℕ, ◌+◌, ◌^◌, ◌<◌, ◌≤◌, true, false, List, length, Option, Some, None}
+use Rattle.std.specs.Prelude.{◌≡◌, ℕ, ◌+◌, ◌^◌, ◌<◌, ◌≤◌, Bool, true, false, List, length, Option, Some, None}
 use Rattle.qm_json.specs.declared.value.Json.{Json}
 use Rattle.qm_json.specs.declared.value.Json.TheVariants.{Null}
 use Rattle.qm_caps.specs.Modes.{bound_of}
@@ -12,7 +12,7 @@ use Rattle.qm_core.specs.Standing.{sessions_of, is_open, is_ended, admitted_of, 
 use Rattle.qm_core.specs.Transcript.{has_overrun, untaken_of}
 use Rattle.qm_core.specs.declared.TheConstants.{MOST_SESSIONS}
 use Rattle.qm_core.specs.declared.entries.Cause.{Cause}
-use Rattle.qm_core.specs.declared.entries.Cause.TheVariants.{Ended, ReadFault, WriteFault, Overrun, Stopped, Limit, Memory, Halted}
+use Rattle.qm_core.specs.declared.entries.Cause.TheVariants.{Ended, Overrun, Stopped}
 use Rattle.qm_core.specs.declared.entries.Entry.{Entry}
 use Rattle.qm_core.specs.declared.entries.Entry.TheVariants.{Open, Admit, Start, Done, Take, Eof, Drop}
 use Rattle.qm_core.specs.declared.inputs.Input.{Input}
@@ -61,20 +61,16 @@ pub record MayEnd (past : List Entry) (s : ℕ) : Type 0 where
   pub more : is_ended s past ≡ false
 
 -- the cause of a drop holds; no command stops the monitor yet
-abbrev pub Holds : List Entry → ℕ → Cause → Type 0
-Holds past s Ended = is_drained s past ≡ true
-Holds past s Stopped = ⊥
-Holds past s Overrun = has_overrun s past ≡ true
-Holds past s ReadFault = Unit {0}
-Holds past s WriteFault = Unit {0}
-Holds past s Limit = Unit {0}
-Holds past s Memory = Unit {0}
-Holds past s Halted = Unit {0}
+abbrev pub cause_holds : List Entry → ℕ → Cause → Bool
+cause_holds past s Ended = is_drained s past
+cause_holds past s Overrun = has_overrun s past
+cause_holds past s Stopped = false
+cause_holds past s _ = true
 
 -- an open session is closed for a cause that holds
 pub record MayDrop (past : List Entry) (s : ℕ) (cause : Cause) : Type 0 where
   pub is_open : is_open s past ≡ true
-  pub holds : Holds past s cause
+  pub holds : cause_holds past s cause ≡ true
 
 -- the entry may come after the past
 abbrev pub MayFollow : List Entry → Entry → Type 0

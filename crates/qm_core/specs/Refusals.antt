@@ -48,14 +48,7 @@ abbrev pub class_of : Refusal → Class
 class_of NegotiationExpected = CommandNotFound
 class_of NegotiationComplete = CommandNotFound
 class_of (UnknownCommand name) = CommandNotFound
-class_of (Malformed what) = GenericError
-class_of NotAnObject = GenericError
-class_of (UnexpectedMember name) = GenericError
-class_of TwoVerbs = GenericError
-class_of NoVerb = GenericError
-class_of (VerbNoString name) = GenericError
-class_of ArgumentsNoObject = GenericError
-class_of (UnexpectedArgument name) = GenericError
+class_of _ = GenericError
 
 abbrev pub class_name_of : Class → List ℕ
 class_name_of GenericError = codes "GenericError"

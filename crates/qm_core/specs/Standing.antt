@@ -1,6 +1,6 @@
 -- What stands in a journal (this project's own rule).
 -- "past" is the entries before a place, the newest first.
-use Rattle.std.specs.Prelude.{ℕ, ◌+◌, ◌==◌, nat_le, max, Bool, false, not, cond, ◌&&◌, List, [], ◌∷◌, ◌++◌, length, codes, filter, find, count_by, Option, Some, None, slice_get, option_map, unwrap_or}
+use Rattle.std.specs.Prelude.{ℕ, ◌+◌, ◌==◌, nat_le, max, Bool, false, not, if◌then◌else◌, ◌&&◌, List, [], ◌∷◌, ◌++◌, length, codes, filter, find, count_by, Option, Some, None, slice_get, option_map, unwrap_or}
 use Rattle.std.specs.List.{list_any, list_all}
 use Rattle.std.specs.Option.{option_and_then}
 use Rattle.std.specs.Str.{bytes_eq}
@@ -62,16 +62,17 @@ abbrev mutual
   -- the mode: commands are taken from the first time that negotiation was answered with a return
   pub mode_of : ℕ → List Entry → Mode
   mode_of s [] = Negotiating
-  mode_of s (Done t k reply moment ∷ past) = cond (t == s && (negotiates (running_of past) && is_return reply)) Command (mode_of s past)
+  mode_of s (Done t k reply moment ∷ past) =
+      if t == s && (negotiates (running_of past) && is_return reply) then Command else mode_of s past
   mode_of s (e ∷ past) = mode_of s past
 
   -- the session's admissions without a start, the oldest first; none after its drop
   pub waiting_of : ℕ → List Entry → List Request
   waiting_of s [] = []
   waiting_of s (Admit t k lane input ∷ past) =
-      cond (t == s) (waiting_of s past ++ record { session = t; number = k; mode = mode_of t past; input = input } ∷ []) (waiting_of s past)
-  waiting_of s (Start t k ∷ past) = cond (t == s) (filter (λ request. not (request.number == k)) (waiting_of s past)) (waiting_of s past)
-  waiting_of s (Drop t cause ∷ past) = cond (t == s) [] (waiting_of s past)
+      if t == s then waiting_of s past ++ record { session = t; number = k; mode = mode_of t past; input = input } ∷ [] else waiting_of s past
+  waiting_of s (Start t k ∷ past) = if t == s then filter (λ request. not (request.number == k)) (waiting_of s past) else waiting_of s past
+  waiting_of s (Drop t cause ∷ past) = if t == s then [] else waiting_of s past
   waiting_of s (e ∷ past) = waiting_of s past
 
   -- the request that was started and is not done
@@ -87,7 +88,7 @@ is_of s None = false
 is_of s (Some request) = request.session == s
 
 abbrev pub in_flight_of : ℕ → List Entry → ℕ
-in_flight_of s past = length (waiting_of s past) + cond (is_of s (running_of past)) 1 0
+in_flight_of s past = length (waiting_of s past) + (if is_of s (running_of past) then 1 else 0)
 
 -- the greatest moment, 0 without one
 abbrev pub last_moment_of : List Entry → ℕ
@@ -98,7 +99,7 @@ last_moment_of (e ∷ past) = last_moment_of past
 -- the place of the session's last start, from 1 on; 0 without one
 abbrev pub last_start_of : ℕ → List Entry → ℕ
 last_start_of s [] = 0
-last_start_of s (Start t k ∷ past) = cond (t == s) (length past + 1) (last_start_of s past)
+last_start_of s (Start t k ∷ past) = if t == s then length past + 1 else last_start_of s past
 last_start_of s (e ∷ past) = last_start_of s past
 
 -- the open sessions that wait

@@ -69,7 +69,7 @@ request_text_of s k = decimal s ++ codes " " ++ decimal k
 abbrev pub taken_text_of : List ℕ → List ℕ
 taken_text_of line = codes "> " ++ line ++ codes "\n"
 
--- what an entry says after its number; the lines that were handed out follow it
+-- the body of an entry, which follows its number: its own line, and then a line for each that was handed out
 abbrev pub entry_body_of : Entry → List ℕ
 entry_body_of (Open s) = codes " open " ++ decimal s ++ codes "\n"
 entry_body_of (Admit s k lane input) = codes " admit " ++ request_text_of s k ++ codes " " ++ lane_word_of lane ++ codes " " ++ input_text_of input ++ codes "\n"

@@ -1,5 +1,5 @@
 -- What a session is sent (this project's own rule). Lines stand without their CR LF.
-use Rattle.std.specs.Prelude.{ℕ, ◌+◌, ◌==◌, nat_lt, Bool, not, cond, ◌&&◌, List, [], ◌∷◌, ◌++◌, length, map, drop}
+use Rattle.std.specs.Prelude.{ℕ, ◌+◌, ◌==◌, nat_lt, Bool, not, if◌then◌else◌, ◌&&◌, List, [], ◌∷◌, ◌++◌, length, map, drop}
 use Rattle.std.specs.List.{flat_map, list_any, take_while}
 use Rattle.qm_json.specs.Printing.{printed}
 use Rattle.qm_caps.specs.Greetings.{greeting_value}
@@ -15,7 +15,7 @@ wire_of lines = flat_map (λ line. line ++ 13 ∷ 10 ∷ []) lines
 -- the lines that were handed out
 abbrev pub taken_of : ℕ → List Entry → List (List ℕ)
 taken_of s [] = []
-taken_of s (Take t lines ∷ past) = cond (t == s) (taken_of s past ++ lines) (taken_of s past)
+taken_of s (Take t lines ∷ past) = if t == s then taken_of s past ++ lines else taken_of s past
 taken_of s (e ∷ past) = taken_of s past
 
 -- a line that may be sent, and whether it would bring the bytes that are untaken past their limit
@@ -37,9 +37,9 @@ with_line candidates taken line = candidates ++ record { line = line; overruns =
 abbrev pub candidates_of : ℕ → List Entry → List Candidate
 candidates_of s [] = []
 candidates_of s (Open t ∷ past) =
-    cond (t == s) (with_line (candidates_of s past) (taken_of s past) (printed greeting_value)) (candidates_of s past)
+    if t == s then with_line (candidates_of s past) (taken_of s past) (printed greeting_value) else candidates_of s past
 candidates_of s (Done t k reply moment ∷ past) =
-    cond (t == s && is_open s past) (with_line (candidates_of s past) (taken_of s past) (printed reply)) (candidates_of s past)
+    if t == s && is_open s past then with_line (candidates_of s past) (taken_of s past) (printed reply) else candidates_of s past
 candidates_of s (e ∷ past) = candidates_of s past
 
 -- the transcript: the candidates before the first that overruns

@@ -1,8 +1,8 @@
-ghost use Rattle.std.specs.Prelude.{◌≡◌, ◌&&◌, not, find, [], ◌∷◌, codes, IfOk};
-ghost use Rattle.std.specs.Option.{option_and_then, option_copied};
-ghost use Rattle.qm_json.specs.Members.{has_name, member_of, members_of};
+ghost use Rattle.std.specs.Prelude.{◌≡◌, ◌&&◌, not, find, slice_get, codes, IfOk};
+ghost use Rattle.std.specs.Option.{option_copied};
+ghost use Rattle.qm_json.specs.Members.{has_name, members_of};
 ghost use Rattle.qm_core.specs.Inputs.{command_name_of, is_object, is_verb, string_of};
-ghost use Rattle.qm_core.specs.Verdicts.{arguments_no_object, arguments_of, first_of, is_expected, is_negotiating, known_command as command_of_name, malformed, may_be_out_of_band, misplaced, request_verdict_of, run_or, verb_no_string, verdict_of};
+ghost use Rattle.qm_core.specs.Verdicts.{arguments_of, bad_arguments, command_verdict_of, is_expected, is_negotiating, known_command as command_of_name, malformed, may_be_out_of_band, misplaced, request_verdict_of, run_of, verdict_of};
 
 use crate::inputs::Input;
 use crate::verdicts::{Command, Refusal, Verdict};
@@ -27,19 +27,13 @@ pub(crate) fn known_command(name: &[u8]) -> Option<Command>
 fn may_be_out_of_band(mode: Mode) -> bool
     ensures { result ≡ may_be_out_of_band mode }
 {
-    match mode {
-        Mode::CommandOob => true,
-        Mode::Negotiating | Mode::Command => false,
-    }
+    matches!(mode, Mode::CommandOob)
 }
 
 fn is_negotiating(mode: Mode) -> bool
     ensures { result ≡ is_negotiating mode }
 {
-    match mode {
-        Mode::Negotiating => true,
-        Mode::Command | Mode::CommandOob => false,
-    }
+    matches!(mode, Mode::Negotiating)
 }
 
 fn is_expected(mode: Mode, member: &Member) -> bool
@@ -90,10 +84,7 @@ fn string(value: &Json) -> Option<&[u8]>
 fn is_object(value: &Json) -> bool
     ensures { result ≡ is_object value.now }
 {
-    match value {
-        Json::Obj(_) => true,
-        _ => false,
-    }
+    matches!(value, Json::Obj(_))
 }
 
 /// The members of an object; any other value has none.
@@ -125,20 +116,6 @@ pub(crate) fn command_name(value: &Json) -> Option<&[u8]>
     }
 }
 
-fn malformed_verb(alloc: Global, verb: &Member, value: &Json) -> Result<Option<Refusal>, NoMemory>
-    ensures { IfOk result (λ refusal. refusal ≡ first_of (verb_no_string verb.now
-        ∷ option_and_then arguments_no_object (member_of value.now (codes "arguments")) ∷ [])) }
-{
-    if string(&verb.value).is_none() {
-        let name = verb.name.copy(alloc)?;
-        return Ok(Some(Refusal::VerbNoString(name)));
-    }
-    match value.member(b"arguments") {
-        Some(arguments) if !is_object(arguments) => Ok(Some(Refusal::ArgumentsNoObject)),
-        _ => Ok(None),
-    }
-}
-
 fn malformed(alloc: Global, mode: Mode, value: &Json) -> Result<Option<Refusal>, NoMemory>
     ensures { IfOk result (λ refusal. refusal ≡ malformed mode value.now) }
 {
@@ -153,52 +130,62 @@ fn malformed(alloc: Global, mode: Mode, value: &Json) -> Result<Option<Refusal>,
     if has_two_verbs(members) {
         return Ok(Some(Refusal::TwoVerbs));
     }
-    match verb(members) {
-        Some(verb) => malformed_verb(alloc, verb, value),
-        None => Ok(Some(Refusal::NoVerb)),
+    Ok(None)
+}
+
+fn bad_arguments(value: &Json) -> Option<Refusal>
+    ensures { result ≡ bad_arguments value.now }
+{
+    match value.member(b"arguments") {
+        Some(arguments) if !is_object(arguments) => Some(Refusal::ArgumentsNoObject),
+        _ => None,
     }
 }
 
-fn misplaced(
-    alloc: Global,
-    mode: Mode,
-    name: &[u8],
-    arguments: &[Member],
-) -> Result<Option<Refusal>, NoMemory>
-    ensures { IfOk result (λ refusal. refusal ≡ misplaced mode name.now arguments.now) }
+fn misplaced(mode: Mode, name: &[u8]) -> Option<Refusal>
+    ensures { result ≡ misplaced mode name.now }
 {
     let negotiates = name == b"qmp_capabilities".as_slice();
     if is_negotiating(mode) && !negotiates {
-        return Ok(Some(Refusal::NegotiationExpected));
+        return Some(Refusal::NegotiationExpected);
     }
     if !is_negotiating(mode) && negotiates {
-        return Ok(Some(Refusal::NegotiationComplete));
+        return Some(Refusal::NegotiationComplete);
     }
-    if known_command(name).is_none() {
-        return Ok(Some(Refusal::UnknownCommand(Text::of(alloc, name)?)));
-    }
+    None
+}
+
+fn run(alloc: Global, name: &[u8], arguments: &[Member]) -> Result<Verdict, NoMemory>
+    ensures { IfOk result (λ verdict. verdict
+        ≡ run_of name.now (slice_get arguments.now 0) (command_of_name name.now)) }
+{
+    let Some(command) = known_command(name) else {
+        return Ok(Verdict::Refused(Refusal::UnknownCommand(Text::of(alloc, name)?)));
+    };
     match arguments.first() {
-        Some(argument) => Ok(Some(Refusal::UnexpectedArgument(argument.name.copy(alloc)?))),
-        None => Ok(None),
+        Some(argument) => {
+            let name = argument.name.copy(alloc)?;
+            Ok(Verdict::Refused(Refusal::UnexpectedArgument(name)))
+        }
+        None => Ok(Verdict::Run(command)),
     }
 }
 
 fn command_verdict(
     alloc: Global,
     mode: Mode,
+    value: &Json,
     name: &[u8],
-    arguments: &[Member],
 ) -> Result<Verdict, NoMemory>
-    ensures { IfOk result (λ verdict. verdict ≡
-        run_or (misplaced mode name.now arguments.now) (command_of_name name.now)) }
+    ensures { IfOk result (λ verdict. verdict ≡ command_verdict_of mode value.now name.now) }
 {
-    if let Some(refusal) = misplaced(alloc, mode, name, arguments)? {
+    if let Some(refusal) = bad_arguments(value) {
         return Ok(Verdict::Refused(refusal));
     }
-    match known_command(name) {
-        Some(command) => Ok(Verdict::Run(command)),
-        None => Ok(Verdict::Refused(Refusal::NoVerb)),
+    if let Some(refusal) = misplaced(mode, name) {
+        return Ok(Verdict::Refused(refusal));
     }
+    run(alloc, name, arguments(value))
 }
 
 fn request_verdict(alloc: Global, mode: Mode, value: &Json) -> Result<Verdict, NoMemory>
@@ -207,9 +194,12 @@ fn request_verdict(alloc: Global, mode: Mode, value: &Json) -> Result<Verdict, N
     if let Some(refusal) = malformed(alloc, mode, value)? {
         return Ok(Verdict::Refused(refusal));
     }
-    match command_name(value) {
-        Some(name) => command_verdict(alloc, mode, name, arguments(value)),
-        None => command_verdict(alloc, mode, &[], arguments(value)),
+    let Some(verb) = verb(members(value)) else {
+        return Ok(Verdict::Refused(Refusal::NoVerb));
+    };
+    match string(&verb.value) {
+        Some(name) => command_verdict(alloc, mode, value, name),
+        None => Ok(Verdict::Refused(Refusal::VerbNoString(verb.name.copy(alloc)?))),
     }
 }
 

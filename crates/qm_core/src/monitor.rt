@@ -1,8 +1,8 @@
-ghost use Rattle.std.specs.Prelude.{◌≡◌, ◌≢◌, ◌≤◌, [], Option, Some, IfOk, IfErr, OnOk, IsTrue, ◌↔◌};
+ghost use Rattle.std.specs.Prelude.{◌≡◌, ◌≤◌, [], true, IfOk, OnOk};
 ghost use Rattle.std.specs.Result.{result_err};
-ghost use Rattle.qm_core.specs.Legal.{IsLegal, past_of};
-ghost use Rattle.qm_core.specs.Next.{session_refusal};
-ghost use Rattle.qm_core.specs.Standing.{sessions_of, was_opened, is_dropped, open_count_of, in_flight_of, running_of, named_of};
+ghost use Rattle.qm_core.specs.Legal.{HasRoom, IsLegal, past_of};
+ghost use Rattle.qm_core.specs.Next.{closed_refusal};
+ghost use Rattle.qm_core.specs.Standing.{was_opened, admitted_of, is_dropped, open_count_of, in_flight_of, running_of, named_of};
 ghost use Rattle.qm_core.specs.Transcript.{has_overrun};
 
 use crate::entries::StepFault;
@@ -13,12 +13,9 @@ use qm_base::NoMemory;
 use std::alloc::Global;
 use std::marker::Model;
 
-mod counts;
 mod request_steps;
 mod rooms;
 mod session_steps;
-#[cfg(test)]
-mod tests;
 
 /// What a monitor may grow to.
 #[derive(Clone, Copy, Debug, PartialEq, Eq)]
@@ -56,7 +53,6 @@ impl Model for Monitor {
 
 impl Monitor {
     ghost use Rattle.qm_core.specs.declared.TheConstants.{MOST_ENTRIES, MOST_TEXT};
-    ghost use Rattle.qm_core.specs.declared.entries.StepFault.{StepFault};
     ghost use Rattle.qm_core.specs.Kept.{IsFirstOpen};
 
     /// A monitor with an empty journal, which has its places.
@@ -80,15 +76,9 @@ impl Monitor {
     pub fn journal(&self) -> &EntryList
         ensures entries { result.now.items ≡ self.now.journal }
         ensures legal { IsLegal self.now.journal }
+        ensures room { HasRoom self.now.limits self.now.journal }
     {
         self.journal.entries()
-    }
-
-    /// What it may grow to.
-    pub fn limits(&self) -> Limits
-        ensures { result ≡ self.now.limits }
-    {
-        self.limits
     }
 
     /// The request that was started and is not answered yet.
@@ -104,13 +94,6 @@ impl Monitor {
         }
     }
 
-    /// Whether a session was opened.
-    pub fn has_opened(&self) -> bool
-        ensures { IsTrue result ↔ (sessions_of (past_of self.now.journal) ≢ []) }
-    {
-        self.session.opened
-    }
-
     /// Whether the session was opened.
     pub fn is_known(&self, session: u32) -> bool
         ensures { result ≡ was_opened session (past_of self.now.journal) }
@@ -122,47 +105,41 @@ impl Monitor {
     pub fn is_closed(&self, session: u32) -> bool
         ensures { result ≡ is_dropped session (past_of self.now.journal) }
     {
-        if session == 1 {
-            self.session.dropped
-        } else {
-            false
-        }
+        session == 1 && self.session.dropped
     }
 
     /// Whether a line of the session did not fit into its outbox, so that it gets no line any more.
     pub fn is_overrun(&self, session: u32) -> bool
         ensures { result ≡ has_overrun session (past_of self.now.journal) }
     {
-        if session == 1 {
-            self.session.overrun
-        } else {
-            false
-        }
+        session == 1 && self.session.overrun
+    }
+
+    /// How many requests of a session that was opened were admitted.
+    pub fn admitted(&self, session: u32) -> u64
+        requires { was_opened session (past_of self.now.journal) ≡ true }
+        ensures { result ≡ admitted_of session (past_of self.now.journal) }
+    {
+        let _session = session;
+        self.session.admitted
     }
 
     fn open_count(&self) -> u64
         ensures exact { result ≡ open_count_of (past_of self.now.journal) }
         ensures few { result ≤ 1 }
     {
-        if self.session.opened && !self.session.dropped {
-            1
-        } else {
-            0
-        }
+        u64::from(self.session.is_open())
     }
 
     fn in_flight(&self) -> u32
         ensures { result ≡ in_flight_of 1 (past_of self.now.journal) }
     {
-        let waiting = if self.session.waiting.is_some() { 1 } else { 0 };
-        let running = if self.running.is_some() { 1 } else { 0 };
-        waiting + running
+        u32::from(self.session.waiting.is_some()) + u32::from(self.running.is_some())
     }
 
     fn open_session(&self, session: u32) -> Result<(), StepFault>
         ensures open { OnOk result (IsFirstOpen (past_of self.now.journal) session) }
-        ensures fault { (others : Option StepFault) → IfErr result (λ fault. Some fault
-            ≡ session_refusal session (past_of self.now.journal) others) }
+        ensures fault { result_err result ≡ closed_refusal session (past_of self.now.journal) }
     {
         if !self.is_known(session) {
             return Err(StepFault::NoSession);

@@ -1,4 +1,4 @@
-ghost use Rattle.std.specs.Prelude.{◌≡◌, ◌↔◌, IsTrue, IsSome, IfSome, IfOk, Some, None};
+ghost use Rattle.std.specs.Prelude.{◌≡◌, IsSome, IfOk, Some, None};
 ghost use Rattle.qm_core.specs.Inputs.{IsCleanInput};
 
 use crate::inputs::Input;
@@ -56,13 +56,6 @@ impl Offer {
         Ok(Offer {
             owners: Some(owners),
         })
-    }
-
-    /// Whether an admission has spent it.
-    pub fn is_spent(&self) -> bool
-        ensures { IsTrue result ↔ (self.now ≡ None) }
-    {
-        self.owners.is_none()
     }
 
     /// The input, which no admission has spent.

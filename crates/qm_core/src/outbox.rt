@@ -8,13 +8,14 @@ use crate::lines::LineList;
 use qm_base::{NoMemory, Shared, Text};
 use std::alloc::Global;
 use std::marker::Model;
+use std::mem;
 
 /// The lines of a session that were not handed out yet, in two equal lists: one goes to the
 /// journal, the other to the client.
 #[derive(Drop)]
 pub(crate) struct Outbox {
-    kept: LineList,
-    given: LineList,
+    kept: Vec<Shared<Text>>,
+    given: Vec<Shared<Text>>,
     /// The bytes of the lines, CR LF counted.
     bytes: u64,
 }
@@ -33,9 +34,9 @@ impl Model for Outbox {
 
     ghost Value = { List (List ℕ) };
 
-    ghost view = { λ o. o.kept };
+    ghost view = { λ o. o.kept.items };
 
-    ghost invariant = { λ o. (o.given ≡ o.kept) × (o.bytes ≡ length (wire_of o.kept)) × (o.bytes ≤ MOST_UNTAKEN) };
+    ghost invariant = { λ o. (o.given.items ≡ o.kept.items) × (o.bytes ≡ length (wire_of o.kept.items)) × (o.bytes ≤ MOST_UNTAKEN) };
 }
 
 impl Outbox {
@@ -44,8 +45,8 @@ impl Outbox {
         ensures { result ≡ [] }
     {
         Outbox {
-            kept: LineList::new(alloc),
-            given: LineList::new(alloc),
+            kept: Vec::new(alloc),
+            given: Vec::new(alloc),
             bytes: 0,
         }
     }
@@ -83,17 +84,15 @@ impl Outbox {
     {
         let copy = line.again()?;
         let bytes = line.get().len() as u64 + 2;
-        self.kept.push(line)?;
-        match self.given.push(copy) {
-            Ok(()) => {
-                self.bytes += bytes;
-                Ok(())
-            }
-            Err(NoMemory) => {
-                self.kept.drop_last();
-                Err(NoMemory)
-            }
+        if self.kept.push(line).is_err() {
+            return Err(NoMemory);
         }
+        if self.given.push(copy).is_err() {
+            let _ = self.kept.pop();
+            return Err(NoMemory);
+        }
+        self.bytes += bytes;
+        Ok(())
     }
 
     /// Moves all lines out. It takes no memory.
@@ -102,10 +101,11 @@ impl Outbox {
         ensures given { result.given ≡ self.old }
         ensures empty { self.new ≡ [] }
     {
+        let alloc = *self.kept.allocator();
         self.bytes = 0;
         Copies {
-            kept: self.kept.take_all(),
-            given: self.given.take_all(),
+            kept: LineList::from_vec(mem::replace(&mut self.kept, Vec::new(alloc))),
+            given: LineList::from_vec(mem::replace(&mut self.given, Vec::new(alloc))),
         }
     }
 }

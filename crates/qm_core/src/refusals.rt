@@ -1,4 +1,4 @@
-ghost use Rattle.std.specs.Prelude.{◌≡◌, ◌++◌, codes, IfOk};
+ghost use Rattle.std.specs.Prelude.{◌≡◌, ◌++◌, IfOk};
 ghost use Rattle.std.specs.Fmt.{decimal};
 ghost use Rattle.qm_core.specs.Refusals.{bad_desc_of, class_name_of, class_of, desc_of, frame_desc_of, json_desc_of};
 
@@ -24,12 +24,6 @@ fn with_name(alloc: Global, front: &[u8], name: &Text, back: &[u8]) -> Result<Te
     text.extend(name.as_slice())?;
     text.extend(back)?;
     Ok(text)
-}
-
-fn with_member(alloc: Global, name: &Text, back: &[u8]) -> Result<Text, NoMemory>
-    ensures { IfOk result (λ text. text ≡ codes "QMP input member '" ++ name.now ++ back.now) }
-{
-    with_name(alloc, b"QMP input member '", name, back)
 }
 
 fn frame_desc(alloc: Global, word: FrameWord) -> Result<Text, NoMemory>
@@ -78,10 +72,14 @@ pub(crate) fn desc(alloc: Global, refusal: &Refusal) -> Result<Text, NoMemory>
     match refusal {
         Refusal::BadInput(bad) => bad_desc(alloc, *bad),
         Refusal::NotAnObject => Text::of(alloc, b"QMP input must be a JSON object"),
-        Refusal::UnexpectedMember(name) => with_member(alloc, name, b"' is unexpected"),
+        Refusal::UnexpectedMember(name) => {
+            with_name(alloc, b"QMP input member '", name, b"' is unexpected")
+        }
         Refusal::TwoVerbs => Text::of(alloc, b"QMP input has both 'execute' and 'exec-oob'"),
         Refusal::NoVerb => Text::of(alloc, b"QMP input lacks member 'execute'"),
-        Refusal::VerbNoString(name) => with_member(alloc, name, b"' must be a string"),
+        Refusal::VerbNoString(name) => {
+            with_name(alloc, b"QMP input member '", name, b"' must be a string")
+        }
         Refusal::ArgumentsNoObject => {
             Text::of(alloc, b"QMP input member 'arguments' must be an object")
         }

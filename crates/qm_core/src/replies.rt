@@ -96,6 +96,3 @@ pub(crate) fn negotiates(request: &Request) -> bool
         Input::Bad(_) => false,
     }
 }
-
-#[cfg(test)]
-mod tests;

@@ -1,9 +1,28 @@
-ghost use Rattle.std.specs.Prelude.{◌≡◌, ◌≤◌, length};
+ghost use Rattle.std.specs.Prelude.{◌≡◌, ◌≤◌, find, length};
+ghost use Rattle.std.specs.Option.{option_copied};
+ghost use Rattle.std.specs.Str.{bytes_eq};
 ghost use Rattle.qm_core.specs.Texts.{cause_of, cause_word_of, frame_word_of, lane_word_of};
 
 use crate::entries::Cause;
 use crate::inputs::FrameWord;
 use qm_caps::Lane;
+
+const CAUSES: [Cause; 8] = [
+    Cause::Ended,
+    Cause::ReadFault,
+    Cause::WriteFault,
+    Cause::Overrun,
+    Cause::Stopped,
+    Cause::Limit,
+    Cause::Memory,
+    Cause::Halted,
+];
+
+fn cause_in<'a>(causes: &'a [Cause], word: &[u8]) -> Option<&'a Cause>
+    ensures { option_copied result ≡ find (λ c. bytes_eq word.now (cause_word_of c)) causes.now }
+{
+    causes.iter().find(|cause| word == cause.word())
+}
 
 impl Cause {
     /// The word of a cause in scripts and transcripts. This project's own rule.
@@ -27,31 +46,7 @@ impl Cause {
     pub fn of_word(word: &[u8]) -> Option<Cause>
         ensures { result ≡ cause_of word.now }
     {
-        if word == b"ended".as_slice() {
-            return Some(Cause::Ended);
-        }
-        if word == b"read-fault".as_slice() {
-            return Some(Cause::ReadFault);
-        }
-        if word == b"write-fault".as_slice() {
-            return Some(Cause::WriteFault);
-        }
-        if word == b"overrun".as_slice() {
-            return Some(Cause::Overrun);
-        }
-        if word == b"stopped".as_slice() {
-            return Some(Cause::Stopped);
-        }
-        if word == b"limit".as_slice() {
-            return Some(Cause::Limit);
-        }
-        if word == b"memory".as_slice() {
-            return Some(Cause::Memory);
-        }
-        if word == b"halted".as_slice() {
-            return Some(Cause::Halted);
-        }
-        None
+        cause_in(&CAUSES, word).copied()
     }
 }
 

@@ -4,11 +4,7 @@ use Rattle.std.proofs.lemmas.Grind.{common_steps}
 use Rattle.qm_base.specs.Prefixes.{IsPrefix}
 use Rattle.qm_core.specs.Texts.{text_from, text_of, entry_text_of}
 use Rattle.qm_core.specs.declared.entries.Entry.{Entry}
-
--- the entries after others are numbered on
-pub text_from-append : (n : ℕ) (front back : List Entry) → text_from n (front ++ back) ≡ text_from n front ++ text_from (n + length front) back
-text_from-append n [] back = grind arith
-text_from-append n (e ∷ front) back = grind (arith, text_from-append (n + 1) front back, append_assoc)
+use Rattle.qm_core.proofs.Texts.{text_from-append}
 
 -- the text of the entries before a place is a part of the text
 pub text-so_far : (journal : List Entry) (i : ℕ) → i ≤ length journal → IsPrefix (text_of (take i journal)) (text_of journal)

@@ -5,6 +5,3 @@ mod texts;
 mod writing;
 
 pub use writing::{HistoryFault, write_history};
-
-#[cfg(test)]
-mod tests;

@@ -84,10 +84,10 @@ fn put_lines(out: &mut Text, lines: &[Shared<Text>]) -> Result<(), NoMemory>
     Ok(())
 }
 
-fn put_open(out: &mut Text, session: u32) -> Result<(), NoMemory>
-    ensures { OnOk result (out.new ≡ out.old ++ (codes " open " ++ decimal session ++ codes "\n")) }
+fn put_session_line(out: &mut Text, word: &[u8], session: u32) -> Result<(), NoMemory>
+    ensures { OnOk result (out.new ≡ out.old ++ (word.now ++ decimal session ++ codes "\n")) }
 {
-    out.extend(b" open ")?;
+    out.extend(word)?;
     put_number(out, u64::from(session))?;
     out.push(b'\n')
 }
@@ -151,14 +151,6 @@ fn put_take(out: &mut Text, session: u32, lines: &[Shared<Text>]) -> Result<(), 
     put_lines(out, lines)
 }
 
-fn put_eof(out: &mut Text, session: u32) -> Result<(), NoMemory>
-    ensures { OnOk result (out.new ≡ out.old ++ (codes " eof " ++ decimal session ++ codes "\n")) }
-{
-    out.extend(b" eof ")?;
-    put_number(out, u64::from(session))?;
-    out.push(b'\n')
-}
-
 fn put_drop(out: &mut Text, session: u32, cause: Cause) -> Result<(), NoMemory>
     ensures { OnOk result (out.new ≡ out.old
         ++ (codes " drop " ++ decimal session ++ codes " " ++ cause_word_of cause ++ codes "\n")) }
@@ -174,7 +166,7 @@ fn put_body(out: &mut Text, entry: &Entry) -> Result<(), NoMemory>
     ensures { OnOk result (out.new ≡ out.old ++ entry_body_of entry.now) }
 {
     match entry {
-        Entry::Open { session } => put_open(out, *session),
+        Entry::Open { session } => put_session_line(out, b" open ", *session),
         Entry::Admit {
             session,
             number,
@@ -189,7 +181,7 @@ fn put_body(out: &mut Text, entry: &Entry) -> Result<(), NoMemory>
             moment,
         } => { put_done(out, *session, *number, reply, *moment) }
         Entry::Take { session, lines } => put_take(out, *session, lines.as_slice()),
-        Entry::Eof { session } => put_eof(out, *session),
+        Entry::Eof { session } => put_session_line(out, b" eof ", *session),
         Entry::Drop { session, cause } => put_drop(out, *session, *cause),
     }
 }

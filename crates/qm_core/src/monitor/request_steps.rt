@@ -1,14 +1,13 @@
-ghost use Rattle.std.specs.Prelude.{◌≡◌, ◌≢◌, ◌+◌, ◌≤◌, ◌<◌, ◌^◌, ◌&&◌, [], length, cond, Option, Some, None, Err, IfSome, IfOk, IsSome, OnOk, OnErr, false};
+ghost use Rattle.std.specs.Prelude.{◌≡◌, ◌≢◌, ◌+◌, ◌≤◌, ◌<◌, ◌^◌, ◌&&◌, [], if◌then◌else◌, Some, None, Err, IfSome, IfOk, IsSome, OnOk, OnErr, false};
 ghost use Rattle.std.specs.Result.{result_err};
 ghost use Rattle.qm_json.specs.Printing.{printed};
 ghost use Rattle.qm_caps.specs.Modes.{bound_of};
 ghost use Rattle.qm_caps.specs.declared.mode.Lane.TheVariants.{InBand};
 ghost use Rattle.qm_core.specs.Legal.{past_of};
 ghost use Rattle.qm_core.specs.Next.{Next, Admit, Start, Finish, is_running, start_entry};
-ghost use Rattle.qm_core.specs.Texts.{entry_text_of};
 ghost use Rattle.qm_core.specs.declared.entries.Entry.TheVariants as entry;
 ghost use Rattle.qm_core.specs.Replies.{reply_to, is_return};
-ghost use Rattle.qm_core.specs.Standing.{is_ended, open_count_of, admitted_of, in_flight_of, mode_of, waiting_of, running_of, starting_of, named_of, negotiates};
+ghost use Rattle.qm_core.specs.Standing.{is_ended, admitted_of, in_flight_of, mode_of, waiting_of, running_of, starting_of, named_of, negotiates};
 
 use crate::entries::{Entry, StepFault};
 use crate::inputs::Input;
@@ -54,7 +53,7 @@ struct Starting {
 }
 
 impl Monitor {
-    ghost use Rattle.qm_core.specs.Kept.{HasPlace, IsFirstOpen, refusal_in};
+    ghost use Rattle.qm_core.specs.Kept.{IsFirstOpen, IsPlaced, refusal_in};
     ghost use Rattle.qm_core.specs.declared.entries.StepFault.{StepFault};
 
     #[tactic(auto, using(crate::proofs::KeptSessions::none_waits))]
@@ -66,15 +65,10 @@ impl Monitor {
             OnOk result (in_flight_of session past < bound_of (mode_of session past)) }
         ensures idle { OnOk result (waiting_of session (past_of self.now.journal) ≡ []) }
         ensures number { OnOk result (admitted_of session (past_of self.now.journal) + 1 < 2 ^ 64) }
-        ensures bytes { let number = admitted_of session (past_of self.now.journal) + 1 in
-            IfOk result (λ n. n ≡ length (entry_text_of (length self.now.journal + 1)
-            (entry.Admit session number InBand input.now))) }
-        ensures room { IfOk result (λ n. HasPlace self.now n (open_count_of (past_of self.now.journal))) }
+        ensures placed { let number = admitted_of session (past_of self.now.journal) + 1 in
+            IfOk result (IsPlaced self.now (entry.Admit session number InBand input.now)) }
     {
-        match self.open_session(session) {
-            Ok(()) => {}
-            Err(fault) => return Err(fault),
-        }
+        self.open_session(session)?;
         if self.session.ended {
             return Err(StepFault::InputEnded);
         }
@@ -129,10 +123,8 @@ impl Monitor {
         ensures idle { OnOk result (running_of (past_of self.now.journal) ≡ None) }
         ensures turn { let past = past_of self.now.journal in
             IfOk result (λ starting. named_of (starting_of past) ≡ Some starting.name) }
-        ensures bytes { IfOk result (λ starting. starting.bytes ≡ length (entry_text_of
-            (length self.now.journal + 1) (start_entry (Some starting.name)))) }
-        ensures room { IfOk result (λ starting.
-            HasPlace self.now starting.bytes (open_count_of (past_of self.now.journal))) }
+        ensures placed { IfOk result (λ starting.
+            IsPlaced self.now (start_entry (Some starting.name)) starting.bytes) }
     {
         if self.running.is_some() {
             return Err(StepFault::Nothing);
@@ -166,8 +158,8 @@ impl Monitor {
     }
 
     fn may_finish(&self, session: u32, number: u64) -> Result<&Request, StepFault>
-        ensures fault { result_err result ≡ cond (is_running session number (past_of self.now.journal))
-            None (Some StepFault.NotRunning) }
+        ensures fault { result_err result ≡ (if is_running session number (past_of self.now.journal)
+            then None else Some StepFault.NotRunning) }
         ensures runs { IfOk result (λ request. running_of (past_of self.now.journal) ≡ Some request.now) }
         ensures named { IfOk result (λ request.
             (request.now.session ≡ session) × (request.now.number ≡ number)) }

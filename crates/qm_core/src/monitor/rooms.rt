@@ -1,10 +1,12 @@
 //! The room of the journal for one more entry.
 
-ghost use Rattle.std.specs.Prelude.{◌≡◌, ◌+◌, ◌≤◌, [], length, IfOk};
+ghost use Rattle.std.specs.Prelude.{◌≡◌, ◌+◌, ◌≤◌, ◌∷◌, length, IfOk};
 ghost use Rattle.std.specs.Result.{result_err};
 ghost use Rattle.qm_caps.specs.declared.mode.Lane.TheVariants.{InBand};
-ghost use Rattle.qm_core.specs.Kept.{HasPlace, Placed, room_refusal};
+ghost use Rattle.qm_core.specs.Kept.{HasPlace, Placed, has_place};
 ghost use Rattle.qm_core.specs.Legal.{past_of};
+ghost use Rattle.qm_core.specs.Next.{full_unless};
+ghost use Rattle.qm_core.specs.Standing.{open_count_of};
 ghost use Rattle.qm_core.specs.Transcript.{untaken_of};
 ghost use Rattle.qm_core.specs.declared.TheConstants.{MOST_TEXT};
 ghost use Rattle.qm_core.specs.declared.entries.Entry.TheVariants.{Open, Admit, Start, Done, Take, Eof};
@@ -27,7 +29,7 @@ impl Monitor {
     /// The bytes of an entry for which there is room, so many sessions being open after it.
     fn room(&self, bytes: u64, opened: u64) -> Result<u64, StepFault>
         requires { opened ≤ 1 }
-        ensures fault { result_err result ≡ room_refusal self.now bytes opened }
+        ensures fault { result_err result ≡ full_unless (has_place self.now bytes opened) }
         ensures value { IfOk result (λ size. size ≡ bytes) }
         ensures room { IfOk result (λ size. HasPlace self.now size opened) }
         ensures short { self.now.limits.text ≤ MOST_TEXT }
@@ -43,7 +45,7 @@ impl Monitor {
     }
 
     pub(super) fn open_room(&self) -> Result<u64, StepFault>
-        requires { past_of self.now.journal ≡ [] }
+        requires { open_count_of (Open 1 ∷ past_of self.now.journal) ≡ 1 }
         ensures { Placed self.now (Open 1) result }
     {
         let at = self.next_number();

@@ -1,13 +1,12 @@
-ghost use Rattle.std.specs.Prelude.{◌≡◌, ◌≢◌, ◌+◌, ◌≤◌, ◌<◌, [], ◌∷◌, length, Option, Some, Err, IfOk, OnOk, false};
+ghost use Rattle.std.specs.Prelude.{◌≡◌, ◌≢◌, ◌+◌, ◌<◌, [], length, Err, IfOk, OnOk, false, true};
 ghost use Rattle.std.specs.Result.{result_err};
 ghost use Rattle.qm_core.specs.Drained.{is_drained};
 ghost use Rattle.qm_core.specs.Legal.{past_of};
-ghost use Rattle.qm_core.specs.Next.{Next, Open, Take, End, Drop, cause_refusal};
-ghost use Rattle.qm_core.specs.Order.{Holds};
+ghost use Rattle.qm_core.specs.Next.{Next, Open, Take, End, Drop, cause_fault};
+ghost use Rattle.qm_core.specs.Order.{cause_holds};
 ghost use Rattle.qm_core.specs.declared.entries.Entry.TheVariants as entry;
-ghost use Rattle.qm_core.specs.Standing.{sessions_of, is_ended, open_count_of};
-ghost use Rattle.qm_core.specs.Texts.{entry_text_of};
-ghost use Rattle.qm_core.specs.Transcript.{has_overrun, untaken_of};
+ghost use Rattle.qm_core.specs.Standing.{sessions_of, is_ended};
+ghost use Rattle.qm_core.specs.Transcript.{untaken_of};
 
 use crate::entries::{Cause, Entry, StepFault};
 use crate::lines::{LineList, line};
@@ -17,16 +16,25 @@ use crate::sizes::drop_size;
 use qm_caps::greeting;
 use std::alloc::Global;
 
+fn cause_fault(cause: Cause) -> StepFault
+    ensures { result ≡ cause_fault cause }
+{
+    if matches!(cause, Cause::Ended) {
+        StepFault::NotDrained
+    } else {
+        StepFault::WrongCause
+    }
+}
+
 impl Monitor {
-    ghost use Rattle.qm_core.specs.Kept.{HasPlace, IsFirstOpen, Placed, refusal_in};
+    ghost use Rattle.qm_core.specs.Kept.{IsFirstOpen, IsPlaced, refusal_in};
     ghost use Rattle.qm_core.specs.declared.entries.StepFault.{StepFault};
 
-    #[tactic(auto, using(crate::proofs::Journals::nothing_before))]
+    #[tactic(auto, using(crate::proofs::KeptSessions::count_open))]
     fn may_open(&self) -> Result<u64, StepFault>
         requires { sessions_of (past_of self.now.journal) ≡ [] }
         ensures fault { result_err result ≡ refusal_in self.now Open }
-        ensures empty { past_of self.now.journal ≡ [] }
-        ensures placed { Placed self.now (entry.Open 1) result }
+        ensures placed { IfOk result (IsPlaced self.now (entry.Open 1)) }
     {
         let _ = &self.limits;
         self.open_room()
@@ -57,13 +65,9 @@ impl Monitor {
         ensures fault { result_err result ≡ refusal_in self.now (End session) }
         ensures open { OnOk result (IsFirstOpen (past_of self.now.journal) session) }
         ensures more { OnOk result (is_ended session (past_of self.now.journal) ≡ false) }
-        ensures bytes { IfOk result (λ n. n ≡ length (entry_text_of (length self.now.journal + 1) (entry.Eof session))) }
-        ensures room { IfOk result (λ n. HasPlace self.now n (open_count_of (past_of self.now.journal))) }
+        ensures placed { IfOk result (IsPlaced self.now (entry.Eof session)) }
     {
-        match self.open_session(session) {
-            Ok(()) => {}
-            Err(fault) => return Err(fault),
-        }
+        self.open_session(session)?;
         if self.session.ended {
             return Err(StepFault::InputEnded);
         }
@@ -87,14 +91,10 @@ impl Monitor {
         ensures fault { result_err result ≡ refusal_in self.now (Take session) }
         ensures open { OnOk result (IsFirstOpen (past_of self.now.journal) session) }
         ensures some { OnOk result (0 < length (untaken_of session (past_of self.now.journal))) }
-        ensures bytes { let lines = untaken_of session (past_of self.now.journal) in
-            IfOk result (λ n. n ≡ length (entry_text_of (length self.now.journal + 1) (entry.Take session lines))) }
-        ensures room { IfOk result (λ n. HasPlace self.now n (open_count_of (past_of self.now.journal))) }
+        ensures placed { let lines = untaken_of session (past_of self.now.journal) in
+            IfOk result (IsPlaced self.now (entry.Take session lines)) }
     {
-        match self.open_session(session) {
-            Ok(()) => {}
-            Err(fault) => return Err(fault),
-        }
+        self.open_session(session)?;
         if self.session.outbox.len() == 0 {
             return Err(StepFault::Nothing);
         }
@@ -131,41 +131,28 @@ impl Monitor {
             && !self.session.overrun
     }
 
-    fn cause_fault(&self, cause: Cause) -> Result<(), StepFault>
-        ensures fault { let past = past_of self.now.journal in
-            result_err result ≡ cause_refusal cause (is_drained 1 past) (has_overrun 1 past) }
-        ensures holds { OnOk result (Holds (past_of self.now.journal) 1 cause) }
+    fn cause_holds(&self, cause: Cause) -> bool
+        ensures { result ≡ cause_holds (past_of self.now.journal) 1 cause }
     {
         match cause {
-            Cause::Ended => {
-                if self.is_drained() {
-                    Ok(())
-                } else {
-                    Err(StepFault::NotDrained)
-                }
-            }
-            Cause::Overrun => {
-                if self.session.overrun {
-                    Ok(())
-                } else {
-                    Err(StepFault::WrongCause)
-                }
-            }
-            Cause::Stopped => Err(StepFault::WrongCause),
+            Cause::Ended => self.is_drained(),
+            Cause::Overrun => self.session.overrun,
+            Cause::Stopped => false,
             Cause::ReadFault | Cause::WriteFault | Cause::Limit | Cause::Memory | Cause::Halted =>
-                Ok(()),
+                true,
         }
     }
 
     fn may_drop(&self, session: u32, cause: Cause) -> Result<(), StepFault>
         ensures fault { result_err result ≡ refusal_in self.now (Drop session cause) }
         ensures open { OnOk result (IsFirstOpen (past_of self.now.journal) session) }
-        ensures holds { OnOk result (Holds (past_of self.now.journal) 1 cause) }
+        ensures holds { OnOk result (cause_holds (past_of self.now.journal) 1 cause ≡ true) }
     {
-        match self.open_session(session) {
-            Ok(()) => self.cause_fault(cause),
-            Err(fault) => Err(fault),
+        self.open_session(session)?;
+        if self.cause_holds(cause) {
+            return Ok(());
         }
+        Err(cause_fault(cause))
     }
 
     /// Closes a session for a cause, and gives up its request that waits. It takes no memory, and

@@ -1,4 +1,4 @@
-use Rattle.std.proofs.Common.{refl}
+use Rattle.std.proofs.Common.{sym}
 use Rattle.qm_core.specs.declared.entries.Entry.TheVariants.{Open}
 use Rattle.qm_core.proofs.Rooms.{placed}
 use Rattle.qm_core.proofs.monitor.Monitor.open_room.Goals as goal
@@ -6,4 +6,4 @@ use Rattle.qm_core.proofs.monitor.Monitor.open_room.Goals as goal
 pub returns : goal.returns
 returns c =
     let found = c.room.ensures in
-    placed c.args.self.now (Open 1) _ _ _ _ found.short c.next_number-at.ensures c.open_size.ensures (rw c.requires refl) found.fault found.value found.room
+    placed c.args.self.now (Open 1) _ _ _ _ found.short c.next_number-at.ensures c.open_size.ensures (sym c.requires) found.fault found.value found.room
