@@ -11,8 +11,10 @@ use Rattle.qm_core.specs.declared.monitor.Limits.{Limits}
 use Rattle.qm_core.specs.declared.requests.RequestName.{RequestName}
 use Rattle.qm_core.proofs.StepLaws.{next_legal}
 use Rattle.qm_script.specs.Fed.{fed_inputs_of}
+use Rattle.qm_script.specs.Playing.{journal_of}
+use Rattle.qm_script.specs.Lines.{lines_of}
 use Rattle.qm_script.specs.Orders.{order_of, fed_by, hex_bytes_of, is_skipped}
-use Rattle.qm_script.specs.Playing.{Played, Ended, stepped, core_step, fed_step, fed_to, input_step, admit_step, finish_step, ordered, line_step, after_line, played_from}
+use Rattle.qm_script.specs.Playing.{Played, Ended, stepped, core_step, fed_step, fed_to, input_step, admit_step, finish_step, ordered, line_step, after_line, nothing_played, played_from}
 use Rattle.qm_script.specs.declared.endings.Stop.{Stop}
 use Rattle.qm_script.specs.declared.endings.Stop.TheVariants.{BadLine}
 use Rattle.qm_script.specs.declared.orders.Order.{Order}
@@ -78,8 +80,12 @@ after_legal : (n : ℕ) (played : Played) (step : Result Played Stop) (go : Play
 after_legal n played (Ok next) go legal goes later = later next goes
 after_legal n played (Err stop) go legal goes later = legal
 
-pub played_legal : (limits : Limits) (n : ℕ) (played : Played) (lines : List (List ℕ)) → IsLegal played.journal → IsLegal (played_from limits n played lines).played.journal
+played_legal : (limits : Limits) (n : ℕ) (played : Played) (lines : List (List ℕ)) → IsLegal played.journal → IsLegal (played_from limits n played lines).played.journal
 played_legal limits n played [] legal = legal
 played_legal limits n played (line ∷ lines) legal =
     after_legal n played (line_step limits played line) (λ next. played_from limits (n + 1) next lines) legal
     (line_legal (is_skipped line) limits played line legal) (λ next later. played_legal limits (n + 1) next lines later)
+
+-- the journal that a script plays is legal
+pub script_legal : (limits : Limits) (script : List ℕ) → IsLegal (journal_of limits script)
+script_legal limits script = played_legal limits 1 nothing_played (lines_of script) tt

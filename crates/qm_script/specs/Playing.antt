@@ -104,6 +104,10 @@ nothing_played = record { journal = []; fed = [] }
 abbrev pub played_of : Limits → List ℕ → Ended
 played_of limits script = played_from limits 1 nothing_played (lines_of script)
 
+-- the journal that a script plays
+abbrev pub journal_of : Limits → List ℕ → List Entry
+journal_of limits script = (played_of limits script).played.journal
+
 -- the transcript: the text of the journal, and the closing line
 abbrev pub transcript_text_of : Ended → List ℕ
 transcript_text_of ended = text_of ended.played.journal ++ closing_of ended.refused (length ended.played.journal)
