@@ -1,13 +1,14 @@
-// A library with one function.
+//! The job table: where its verbs lead, what a unit of work does, and what is refused.
 #![tactic(auto)]
 
-ghost use Rattle.std.specs.Prelude.{◌≡◌};
-ghost use Rattle.qm_jobs.specs.Echo.{echo_of};
+pub mod changes;
+pub mod jobs;
+mod listing;
+pub mod state;
+pub mod status;
+pub mod ways;
 
-// The `ensures` clause is the contract: what `echo` returns is `echo_of` of its argument, a definition
-// in `specs/Echo.antt`, which a caller's clause can cite too.
-pub fn echo(x: usize) -> usize
-    ensures { result ≡ echo_of x }
-{
-    x
-}
+pub use changes::{Change, ChangeList};
+pub use jobs::{JobFault, Jobs, MOST_JOBS};
+pub use state::JobState;
+pub use status::Status;
