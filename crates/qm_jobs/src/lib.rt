@@ -3,6 +3,7 @@
 
 pub mod changes;
 pub mod jobs;
+pub mod laws;
 mod listing;
 pub mod state;
 pub mod status;
