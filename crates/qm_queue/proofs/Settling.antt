@@ -151,10 +151,10 @@ whole n xs ys e = rw e (take-append_seam xs ys)
 pub root-is : (owns bests : Items) → IsTree owns bests → item_at bests 0 ≡ first_of (waiting_in owns)
 root-is owns bests tree = sym (first-is (waiting_in owns) (item_at bests 0) (root-first owns bests tree))
 
-pub root-opened : (owns bests : Items) → IsTree owns bests → IsNumbered owns → (o : Option TurnItem) → o ≡ item_at bests 0 → IfSome o (λ a. IsOpened a owns)
+pub root-opened : (owns bests : Items) → IsTree owns bests → IsNumbered owns → (o : Option TurnItem) → o ≡ item_at bests 0 → IfSome o (λ a. IsOpened a.session owns)
 root-opened owns bests tree is None e = tt
 root-opened owns bests tree is (Some a) e = opened (descend owns bests tree (length bests) 0 a (omega arith) (sym e)) where
-  opened : HasPlace owns a → IsOpened a owns
+  opened : HasPlace owns a → IsOpened a.session owns
   opened p = (let at : a.session ≡ p.place + 1 = is.each p.place a p.is in
     record { counted = omega (arith, at); opened = omega (arith, at, some-inside owns p.place a p.is) })
 
