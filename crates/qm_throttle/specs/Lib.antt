@@ -1,0 +1,4 @@
+pub mod Deadlines
+pub mod Keys
+pub mod Steps
+pub mod Windows

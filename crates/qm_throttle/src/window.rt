@@ -1,0 +1,42 @@
+ghost use Rattle.std.specs.Prelude.{◌≡◌, IfOk};
+
+use crate::sent::Sent;
+use qm_base::NoMemory;
+use std::alloc::Global;
+
+/// An open window, with the latest event that was raised in it.
+#[derive(Debug, Drop)]
+pub struct Window {
+    /// How long it stays open at least, in microseconds.
+    pub period: u64,
+    /// When it ends: at the first tick at or past this moment, in microseconds.
+    pub deadline: u128,
+    /// The latest event that was raised in it.
+    pub kept: Option<Sent>,
+}
+
+fn copy_kept(alloc: Global, kept: &Option<Sent>) -> Result<Option<Sent>, NoMemory>
+    ensures { IfOk result (λ copied. copied ≡ kept.now) }
+{
+    match kept {
+        Some(event) => {
+            let event = event.copy(alloc)?;
+            Ok(Some(event))
+        }
+        None => Ok(None),
+    }
+}
+
+impl Window {
+    /// An equal window.
+    pub(crate) fn copy(&self, alloc: Global) -> Result<Window, NoMemory>
+        ensures { IfOk result (λ window. window ≡ self.now) }
+    {
+        let kept = copy_kept(alloc, &self.kept)?;
+        Ok(Window {
+            period: self.period,
+            deadline: self.deadline,
+            kept,
+        })
+    }
+}
