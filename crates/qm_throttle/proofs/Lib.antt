@@ -1,4 +1,7 @@
 pub mod Calls
 pub mod Cuts
+pub mod Dues
+pub mod Ending
 pub mod Orders
 pub mod Raising
+pub mod Sorting

@@ -1,8 +1,8 @@
 -- The deadlines of windows, in order (this project's own rule).
-use Rattle.std.specs.Prelude.{◌≡◌, ℕ, ◌+◌, ◌==◌, nat_le, Bool, false, cond, List, [], ◌∷◌, map, filter, Option, Some, None}
+use Rattle.std.specs.Prelude.{◌≡◌, ℕ, ◌+◌, ◌==◌, ◌<◌, nat_le, Bool, true, false, List, [], ◌∷◌, Option, Some, None}
 use Rattle.std.specs.BTreeMap.{is_at}
 use Rattle.std.specs.Cmp.{IsTotalOrder, on_total, then_total, nat_cmp_total}
-use Rattle.std.specs.List.{flat_map, list_any}
+use Rattle.std.specs.List.{list_any}
 use Rattle.std.specs.Ordering.{nat_cmp, ordering_then}
 use Rattle.std.specs.declared.cmp.Ordering.{Ordering}
 use Rattle.qm_throttle.specs.Keys.{key_order, key_total}
@@ -33,23 +33,39 @@ ends_at deadline (Some w) = w.deadline == deadline
 abbrev pub is_due : List (Key × Window) → Due → Bool
 is_due windows due = ends_at due.deadline (window_at due.key windows)
 
--- the deadlines are those of the windows
-abbrev pub AreDues : List Due → List (Key × Window) → Type 0
-AreDues dues windows = (due : Due) → has_due dues due ≡ is_due windows due
+-- one of the deadlines is this one
+abbrev pub is_listed : List Due → Due → Bool
+is_listed dues due = list_any (λ d. is_at (due_order d) due) dues
 
--- the deadline comes at or before the moment
-abbrev pub has_come : ℕ → Key × Window → Bool
-has_come moment w = nat_le w.1.deadline moment
+-- a deadline is there, and the first comes at or before the moment
+abbrev pub SomeCome : ℕ → List Due → Type 0
+SomeCome moment [] = ⊥
+SomeCome moment (due ∷ dues) = nat_le due.deadline moment ≡ true
 
--- the keys of the windows that end at a moment
-abbrev pub ended_keys : ℕ → List (Key × Window) → List Key
-ended_keys moment windows = map (λ w. w.0) (filter (has_come moment) windows)
+-- a window ends at the moment
+abbrev pub has_come : ℕ → Option Window → Bool
+has_come moment None = false
+has_come moment (Some w) = nat_le w.deadline moment
 
 -- the deadline of the window that opens where one with a kept event ends
 abbrev pub next_due : ℕ → Key → ℕ → Option Sent → List Due
 next_due moment key period None = []
 next_due moment key period (Some e) = record { deadline = moment + period; key = key } ∷ []
 
--- the deadlines of the windows that open again at a moment
-abbrev pub next_dues : ℕ → List (Key × Window) → List Due
-next_dues moment windows = flat_map (λ w. next_due moment w.0 w.1.period w.1.kept) (filter (has_come moment) windows)
+-- the same of a key, whose window may be open
+abbrev pub next_of : ℕ → Key → Option Window → List Due
+next_of moment key None = []
+next_of moment key (Some w) = next_due moment key w.period w.kept
+
+abbrev pub next_at : ℕ → List (Key × Window) → Key → List Due
+next_at moment windows key = next_of moment key (window_at key windows)
+
+-- a window lasts
+abbrev pub Lasts : Option Window → Type 0
+Lasts None = Unit {0}
+Lasts (Some w) = 0 < w.period
+
+-- what is kept of windows beside them: their deadlines, and that each window lasts
+pub record IsKept (deadlines : List Due) (windows : List (Key × Window)) : Type 0 where
+  pub dues : (due : Due) → has_due deadlines due ≡ is_due windows due
+  pub lasting : (key : Key) → Lasts (window_at key windows)

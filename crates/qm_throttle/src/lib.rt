@@ -1,11 +1,14 @@
 //! Events that are sent at most once a period for each key, the latest of them at its end.
 #![tactic(auto)]
 
+pub(crate) mod deadlines;
 pub(crate) mod due;
+pub(crate) mod endings;
 pub mod keys;
 pub mod laws;
 pub mod sent;
 pub mod window;
+pub(crate) mod windows;
 
 pub use keys::Key;
 pub use sent::{Sent, SentList};

@@ -1,4 +1,5 @@
 ghost use Rattle.std.specs.Prelude.{◌≡◌, IfOk};
+ghost use Rattle.qm_throttle.specs.Endings.{opened_again};
 
 use crate::sent::Sent;
 use qm_base::NoMemory;
@@ -38,5 +39,14 @@ impl Window {
             deadline: self.deadline,
             kept,
         })
+    }
+
+    /// Opens it again at a moment, and gives the event that was kept in it.
+    pub(crate) fn end(&mut self, moment: u64) -> Option<Sent>
+        ensures sent { result ≡ self.old.kept }
+        ensures window { self.new ≡ opened_again moment self.old }
+    {
+        self.deadline = moment as u128 + self.period as u128;
+        self.kept.take()
     }
 }
