@@ -2,7 +2,7 @@
 use Rattle.std.specs.Prelude.{◌≡◌, ◌≢◌, ℕ, ◌+◌, ◌==◌, ◌<◌, nat_le, cond, List, [], ◌∷◌, ◌++◌, length, map, filter, Option, Some, None, IsSome, ◌↔◌}
 use Rattle.std.specs.BTreeMap.{is_at}
 use Rattle.std.specs.List.{flat_map}
-use Rattle.std.specs.Map.{lookup}
+use Rattle.std.specs.Map.{lookup, set_value}
 use Rattle.std.specs.Option.{option_to_list}
 use Rattle.std.specs.Ordering.{match_ordering}
 use Rattle.qm_plan.specs.declared.events.Period.{Period}
@@ -43,6 +43,19 @@ opened_by period e = record { period = period; deadline = e.moment + period; kep
 -- a window with an event raised in it
 abbrev pub keeping : Sent → Window → Window
 keeping e w = record w { kept = Some e }
+
+-- the windows with an event raised in that of its key, where it is open
+abbrev pub kept_in : Key → Sent → List (Key × Window) → Option Window → List (Key × Window)
+kept_in key e windows None = windows
+kept_in key e windows (Some w) = set_value (is_at (key_order key)) windows (keeping e w)
+
+abbrev pub kept_at : Key → Sent → List (Key × Window) → List (Key × Window)
+kept_at key e windows = kept_in key e windows (window_at key windows)
+
+-- an event that no window keeps
+abbrev pub unkept : Sent → Option Window → Option Sent
+unkept e None = Some e
+unkept e (Some w) = None
 
 -- with some windows before it
 abbrev pub behind : List (Key × Window) → Stepped → Stepped

@@ -6,6 +6,7 @@ pub(crate) mod due;
 pub(crate) mod endings;
 pub mod keys;
 pub mod laws;
+pub(crate) mod openings;
 pub mod sent;
 pub mod window;
 pub(crate) mod windows;

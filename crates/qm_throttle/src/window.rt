@@ -1,5 +1,6 @@
 ghost use Rattle.std.specs.Prelude.{◌≡◌, IfOk};
 ghost use Rattle.qm_throttle.specs.Endings.{opened_again};
+ghost use Rattle.qm_throttle.specs.Steps.{keeping};
 
 use crate::sent::Sent;
 use qm_base::NoMemory;
@@ -39,6 +40,13 @@ impl Window {
             deadline: self.deadline,
             kept,
         })
+    }
+
+    /// Keeps an event, in the place of the one before.
+    pub(crate) fn keep(&mut self, event: Sent)
+        ensures { self.new ≡ keeping event self.old }
+    {
+        self.kept = Some(event);
     }
 
     /// Opens it again at a moment, and gives the event that was kept in it.

@@ -1,10 +1,10 @@
-ghost use Rattle.std.specs.Prelude.{◌≡◌, ℕ, ◌<◌, [], IfOk, IfSome, OnOk, OnErr};
+ghost use Rattle.std.specs.Prelude.{◌≡◌, ◌<◌, [], IfOk, OnOk, OnErr};
 ghost use Rattle.std.specs.BTreeMap.{insert_entry};
 ghost use Rattle.std.specs.BTreeSet.{contains};
 ghost use Rattle.std.specs.List.{flat_map};
 ghost use Rattle.std.specs.Option.{option_to_list};
 ghost use Rattle.qm_throttle.specs.Keys.{key_order};
-ghost use Rattle.qm_throttle.specs.Steps.{window_at, raised_among, ticked, sent_at};
+ghost use Rattle.qm_throttle.specs.Steps.{window_at, kept_at, unkept, raised_among, ticked, sent_at};
 ghost use Rattle.qm_throttle.specs.Windows.{due_in};
 ghost use Rattle.qm_throttle.specs.Deadlines.{has_come, next_of, next_at};
 ghost use Rattle.qm_throttle.specs.declared.keys.Key.{Key};
@@ -13,6 +13,7 @@ use crate::deadlines::{put_all, take_come};
 use crate::due::Due;
 use crate::endings::{end_all, reserved};
 use crate::keys::{Key, SharedKey};
+use crate::openings::{insert, keep};
 use crate::sent::Sent;
 use crate::window::Window;
 use qm_base::NoMemory;
@@ -70,24 +71,15 @@ impl Windows {
     }
 
     /// Keeps an event in the window of its key, and gives it back where none is open.
+    #[tactic(auto, using(crate::proofs::Keeping::kept_keeping))]
     fn keep(&mut self, key: &SharedKey, event: Sent) -> Option<Sent>
-        ensures kept { result ≡ None → (period : ℕ) →
-            raised_among period key.now event self.old ≡ record { sent = []; windows = self.new } }
-        ensures none { IfSome result (λ given. window_at key.now self.old ≡ None) }
-        ensures given { IfSome result (λ given. given ≡ event) }
-        ensures same { IfSome result (λ given. self.new ≡ self.old) }
+        ensures given { result ≡ unkept event (window_at key.now self.old) }
+        ensures kept { self.new ≡ kept_at key.now event self.old }
     {
-        let _ = self.map.len();
-        match self.map.get_mut(key) {
-            Some(window) => {
-                window.kept = Some(event);
-                None
-            }
-            None => Some(event),
-        }
+        keep(&mut self.map, key, event)
     }
 
-    /// Puts a window in, whose key has none.
+    /// Puts a window in, whose key has none. An error leaves the windows as they were.
     fn open(&mut self, key: SharedKey, window: Window) -> Result<(), NoMemory>
         requires absent { window_at key self.old ≡ None }
         requires lasting { 0 < window.period }
@@ -101,14 +93,9 @@ impl Windows {
         if let Err(_) = self.deadlines.insert(due) {
             return Err(NoMemory);
         }
-        match self.map.insert(key, window) {
-            Ok(_) => Ok(()),
-            Err(refused) => {
-                let (key, window) = refused.value;
-                let due = Due {
-                    deadline: window.deadline,
-                    key,
-                };
+        match insert(&mut self.map, key, window) {
+            Ok(()) => Ok(()),
+            Err(due) => {
                 let _ = self.deadlines.remove(&due);
                 Err(NoMemory)
             }
@@ -129,6 +116,7 @@ impl Windows {
         ensures windows { OnOk result (self.new ≡ (raised_among period key event self.old).windows) }
         ensures err { OnErr result (self.new ≡ self.old) }
     {
+        let _ = self.map.len();
         let key = SharedKey::new(alloc, key)?;
         let Some(event) = self.keep(&key, event) else {
             return Ok(None);
