@@ -1,4 +1,5 @@
 pub mod Calls
+pub mod Coming
 pub mod Cuts
 pub mod Dues
 pub mod Ending

@@ -1,5 +1,5 @@
 -- The deadlines of windows, in order (this project's own rule).
-use Rattle.std.specs.Prelude.{◌≡◌, ℕ, ◌+◌, ◌==◌, ◌<◌, nat_le, Bool, true, false, List, [], ◌∷◌, Option, Some, None}
+use Rattle.std.specs.Prelude.{◌≡◌, ℕ, ◌+◌, ◌==◌, ◌<◌, nat_le, Bool, true, false, ◌&&◌, List, [], ◌∷◌, Option, Some, None}
 use Rattle.std.specs.BTreeMap.{is_at}
 use Rattle.std.specs.Cmp.{IsTotalOrder, on_total, then_total, nat_cmp_total}
 use Rattle.std.specs.List.{list_any}
@@ -41,6 +41,10 @@ is_listed dues due = list_any (λ d. is_at (due_order d) due) dues
 abbrev pub SomeCome : ℕ → List Due → Type 0
 SomeCome moment [] = ⊥
 SomeCome moment (due ∷ dues) = nat_le due.deadline moment ≡ true
+
+-- a deadline of the key comes at or before the moment
+abbrev pub key_comes : ℕ → List Due → Key → Bool
+key_comes moment dues key = list_any (λ d. nat_le d.deadline moment && is_at (key_order d.key) key) dues
 
 -- a window ends at the moment
 abbrev pub has_come : ℕ → Option Window → Bool

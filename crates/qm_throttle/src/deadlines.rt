@@ -1,9 +1,14 @@
-ghost use Rattle.std.specs.Prelude.{◌≡◌, nat_le, true, false, cond, ◌||◌, OnOk, OnErr};
-ghost use Rattle.qm_throttle.specs.Deadlines.{has_due, is_listed, SomeCome};
+ghost use Rattle.std.specs.Prelude.{◌≡◌, nat_le, true, false, cond, ◌||◌, IfOk, OnOk, OnErr};
+ghost use Rattle.std.specs.BTreeSet.{contains};
+ghost use Rattle.qm_throttle.specs.Keys.{key_order};
+ghost use Rattle.qm_throttle.specs.Deadlines.{has_due, is_listed, key_comes, SomeCome};
 ghost use Rattle.qm_throttle.specs.declared.due.Due.{Due};
+ghost use Rattle.qm_throttle.specs.declared.keys.Key.{Key};
 
 use crate::due::Due;
+use crate::keys::SharedKey;
 use qm_base::NoMemory;
+use std::alloc::Global;
 use std::collections::BTreeSet;
 
 #[tactic(auto, using(crate::proofs::Dues::not_listed_before))]
@@ -67,4 +72,26 @@ pub(crate) fn take_come(deadlines: &mut BTreeSet<Due>, moment: u64)
     while has_come(deadlines, moment) {
         let _ = deadlines.pop_first();
     }
+}
+
+/// The keys of the deadlines that come at or before the moment.
+pub(crate) fn come_keys(
+    alloc: Global,
+    deadlines: &BTreeSet<Due>,
+    moment: u64,
+) -> Result<BTreeSet<SharedKey>, NoMemory>
+    ensures { IfOk result (λ keys. (key : Key) →
+        contains key_order keys key ≡ key_comes moment deadlines.now.keys key) }
+{
+    let mut keys = BTreeSet::new(alloc);
+    for due in deadlines {
+        if due.deadline > moment as u128 {
+            return Ok(keys);
+        }
+        let key = due.key.again()?;
+        if let Err(_) = keys.insert(key) {
+            return Err(NoMemory);
+        }
+    }
+    Ok(keys)
 }

@@ -9,7 +9,7 @@ ghost use Rattle.qm_throttle.specs.Windows.{due_in};
 ghost use Rattle.qm_throttle.specs.Deadlines.{has_come, next_of, next_at};
 ghost use Rattle.qm_throttle.specs.declared.keys.Key.{Key};
 
-use crate::deadlines::{put_all, take_come};
+use crate::deadlines::{come_keys, put_all, take_come};
 use crate::due::Due;
 use crate::endings::{end_all, reserved};
 use crate::keys::{Key, SharedKey};
@@ -131,21 +131,12 @@ impl Windows {
     }
 
     /// The keys of the windows that end at a moment.
+    #[tactic(auto, using(crate::proofs::Coming::comes_where_ends))]
     fn ended(&self, alloc: Global, moment: u64) -> Result<BTreeSet<SharedKey>, NoMemory>
         ensures { IfOk result (λ ended. (key : Key) →
             contains key_order ended key ≡ has_come moment (window_at key self.now)) }
     {
-        let mut ended = BTreeSet::new(alloc);
-        for due in &self.deadlines {
-            if due.deadline > moment as u128 {
-                return Ok(ended);
-            }
-            let key = due.key.again()?;
-            if let Err(_) = ended.insert(key) {
-                return Err(NoMemory);
-            }
-        }
-        Ok(ended)
+        come_keys(alloc, &self.deadlines, moment)
     }
 
     /// The deadline of the window that opens where that of a key ends.
