@@ -1,8 +1,10 @@
 pub mod Calls
 pub mod Coming
+pub mod Copying
 pub mod Cuts
 pub mod Dues
 pub mod Ending
+pub mod Firsts
 pub mod Keeping
 pub mod Orders
 pub mod Raising
