@@ -183,9 +183,9 @@ steps_from old new call events d =
       follows = λ calls follows. d.windows ∙ ap (λ (s : Stepped). s.windows) (more calls follows) ∙ ap (λ (p : List Period). windows_of p (calls ++ call ∷ [])) (sym d.periods);
     }
 
-pub follows_nothing : (periods : List Period) → windows_of periods [] ≡ []
+pub nothing_follows : (periods : List Period) → windows_of periods [] ≡ []
 unfolding windows_of
-follows_nothing periods = refl
+nothing_follows periods = refl
 
 pub due_from : (periods : List Period) (windows : List (Key × Window)) (calls : List Call) → windows ≡ windows_of periods calls → due_in windows ≡ due_of periods calls
 due_from periods windows calls follows = ap due_in follows

@@ -55,20 +55,15 @@ lesser_here n m (Some k) h i = let same : k ≡ n = cc in omega (arith, h, same)
 
 least_is : (n : ℕ) (ws : List (Key × Window)) → IsInOrder (keys_of ws) → ((q : Key) → NotBefore n (window_at q ws)) → (k : Key) → ends_at n (window_at k ws) ≡ true → due_in ws ≡ Some n
 least_is n [] order all k h = absurd cc
-least_is n (w ∷ ws) order all k h = either (key_order k w.0) h where
-  rest : (q : Key) → NotBefore n (window_at q ws)
-  rest = in_tail n w ws order all
-
+least_is n (w ∷ ws) order all k h = either (key_order k w.0) h (λ there. least_is n ws order.1 (in_tail n w ws order all) k there) where
   same : (a b : ℕ) → (a == b) ≡ true → a ≡ b
   same a b h = grind (arith, nat_tests)
 
-  later : ends_at n (window_at k ws) ≡ true → due_in (w ∷ ws) ≡ Some n
-  later h = ap (λ (m : ℕ). let o : Option ℕ = Some m in o) (lesser_here n w.1.deadline (due_in ws) (at_head n w ws all) (least_is n ws order.1 rest k h))
-
-  either : (r : Ordering) → ends_at n (cond (is_eq r) (Some w.1) (window_at k ws)) ≡ true → due_in (w ∷ ws) ≡ Some n
-  either Less h = later h
-  either Equal h = ap (λ (m : ℕ). let o : Option ℕ = Some m in o) (lesser_is n w.1.deadline (due_in ws) (same w.1.deadline n h) (none_sooner n ws order.1 rest))
-  either Greater h = later h
+  either : (r : Ordering) → ends_at n (cond (is_eq r) (Some w.1) (window_at k ws)) ≡ true → (ends_at n (window_at k ws) ≡ true → due_in ws ≡ Some n) → due_in (w ∷ ws) ≡ Some n
+  either Less h more = ap (λ (m : ℕ). let o : Option ℕ = Some m in o) (lesser_here n w.1.deadline (due_in ws) (at_head n w ws all) (more h))
+  either Equal h more =
+      ap (λ (m : ℕ). let o : Option ℕ = Some m in o) (lesser_is n w.1.deadline (due_in ws) (same w.1.deadline n h) (none_sooner n ws order.1 (in_tail n w ws order all)))
+  either Greater h more = ap (λ (m : ℕ). let o : Option ℕ = Some m in o) (lesser_here n w.1.deadline (due_in ws) (at_head n w ws all) (more h))
 
 -- the first deadline is the earliest
 pub first_due : (dues : List Due) (ws : List (Key × Window)) (d : Due) → IsKept dues ws → IsStrictlySortedBy key_order (keys_of ws) → has_due dues d ≡ true →

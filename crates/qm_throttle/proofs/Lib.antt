@@ -9,3 +9,4 @@ pub mod Keeping
 pub mod Orders
 pub mod Raising
 pub mod Sorting
+pub mod Ticking

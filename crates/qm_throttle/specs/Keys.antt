@@ -28,14 +28,17 @@ abbrev pub with_key : Key → List Key → List Key
 with_key key [] = key ∷ []
 with_key key (other ∷ keys) = match_ordering (key_order key other) (key ∷ other ∷ keys) (other ∷ keys) (other ∷ with_key key keys)
 
--- the text of a member's value, and `null` without one
 abbrev pub member_text : Option Json → List ℕ
 member_text None = codes "null"
 member_text (Some value) = printed value
 
+-- the text of the value of a member, `null` for an absent one
+abbrev pub value_text : Json → List ℕ → List ℕ
+value_text payload name = member_text (member_of payload name)
+
 -- the array of the values of these members
 abbrev pub printed_key : List (List ℕ) → Json → List ℕ
-printed_key names payload = array_text (map (λ name. member_text (member_of payload name)) names)
+printed_key names payload = array_text (map (value_text payload) names)
 
 -- the key of an event by its period
 abbrev pub key_by : Option Period → Json → Key

@@ -6,7 +6,8 @@ use Rattle.std.specs.Map.{lookup, set_value}
 use Rattle.std.specs.Option.{option_to_list}
 use Rattle.std.specs.Ordering.{match_ordering}
 use Rattle.qm_plan.specs.declared.events.Period.{Period}
-use Rattle.qm_throttle.specs.Keys.{key_order, period_of}
+use Rattle.qm_plan.specs.declared.events.Raised.{Raised}
+use Rattle.qm_throttle.specs.Keys.{key_order, key_of, period_of}
 use Rattle.qm_throttle.specs.Windows.{Call, Raise, Tick, sent_of, windows_of}
 use Rattle.qm_throttle.specs.declared.keys.Key.{Key}
 use Rattle.qm_throttle.specs.declared.sent.Sent.{Sent}
@@ -30,6 +31,12 @@ pub record Steps (old : Throttling) (call : Call) (events : List Sent) (new : Th
 -- the window of a key, where it is open
 abbrev pub window_at : Key → List (Key × Window) → Option Window
 window_at key windows = lookup (is_at (key_order key)) windows
+
+-- an event has a period, and a window of its key is open
+abbrev pub IsHeld : Throttling → Raised → Type 0
+IsHeld shown raised =
+    let key = key_of shown.periods raised.event raised.payload in
+    (period_of shown.periods key.name ≢ 0) × (window_at key shown.windows ≢ None)
 
 -- the events that are sent, and the windows after them
 pub record Stepped : Type 0 where

@@ -1,10 +1,13 @@
-ghost use Rattle.std.specs.Prelude.{◌≡◌, ◌++◌, Some, refl, IfOk, codes, map};
+ghost use Rattle.std.specs.Prelude.{◌≡◌, ◌++◌, Some, refl, IfOk, OnOk, map};
 ghost use Rattle.std.specs.Cmp;
 ghost use Rattle.std.specs.Cmp.{eq_by_cmp_equiv, partial_order_from_agreeing_total};
 ghost use Rattle.std.specs.Ordering.{eq_by_cmp};
-ghost use Rattle.qm_throttle.specs.Keys.{key_order, key_total};
+ghost use Rattle.qm_json.specs.Printing.{placed, joined};
+ghost use Rattle.qm_throttle.specs.Keys.{key_order, key_total, key_by, printed_key, value_text};
 
 use qm_base::{NoMemory, Shared, Text};
+use qm_json::Json;
+use qm_plan::Period;
 use std::alloc::Global;
 use std::cmp::Ordering;
 use std::marker::Model;
@@ -102,4 +105,50 @@ impl Ord for SharedKey {
     fn cmp(&self, other: &SharedKey) -> Ordering {
         self.shared.get().order(other.shared.get())
     }
+}
+
+fn write_value(payload: &Json, name: &Text, out: &mut Text) -> Result<(), NoMemory>
+    ensures { OnOk result (out.new ≡ out.old ++ value_text payload.now name.now) }
+{
+    match payload.member(name.as_slice()) {
+        Some(value) => value.write_text(out),
+        None => out.extend(b"null"),
+    }
+}
+
+fn write_next(later: bool, payload: &Json, name: &Text, out: &mut Text) -> Result<(), NoMemory>
+    ensures { OnOk result (out.new ≡ out.old ++ placed later (value_text payload.now name.now)) }
+{
+    if later {
+        out.extend(b", ")?;
+    }
+    write_value(payload, name, out)
+}
+
+fn write_values(payload: &Json, names: &[Text], out: &mut Text) -> Result<(), NoMemory>
+    ensures { OnOk result (out.new ≡ out.old ++ joined (map (value_text payload.now) names.now)) }
+{
+    for (i, name) in names.iter().enumerate() {
+        write_next(i > 0, payload, name, out)?;
+    }
+    Ok(())
+}
+
+fn printed_key(alloc: Global, names: &[Text], payload: &Json) -> Result<Text, NoMemory>
+    ensures { IfOk result (λ text. text ≡ printed_key names.now payload.now) }
+{
+    let mut out = Text::new(alloc);
+    out.push(b'[')?;
+    write_values(payload, names, &mut out)?;
+    out.push(b']')?;
+    Ok(out)
+}
+
+/// The key of an event of this period with this payload.
+pub(crate) fn key_of(alloc: Global, period: &Period, payload: &Json) -> Result<Key, NoMemory>
+    ensures { IfOk result (λ key. key ≡ key_by (Some period.now) payload.now) }
+{
+    let name = period.name.copy(alloc)?;
+    let printed = printed_key(alloc, period.key.as_slice(), payload)?;
+    Ok(Key { name, printed })
 }

@@ -8,9 +8,11 @@ pub mod keys;
 pub mod laws;
 pub(crate) mod openings;
 pub mod sent;
+pub mod throttle;
 pub mod window;
 pub(crate) mod windows;
 
 pub use keys::Key;
 pub use sent::{Sent, SentList};
+pub use throttle::Throttle;
 pub use window::Window;
