@@ -7,6 +7,7 @@ pub mod Ending
 pub mod Firsts
 pub mod Keeping
 pub mod Orders
+pub mod Periods
 pub mod Raising
 pub mod Sorting
 pub mod Ticking

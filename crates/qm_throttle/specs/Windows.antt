@@ -16,9 +16,11 @@ pub data Call : Type 0 where
   Tick : ℕ → Call
 
 -- an event that is raised at a moment
+abbrev pub event_of : Raised → ℕ → Sent
+event_of raised moment = record { event = raised.event; payload = raised.payload; moment = moment }
+
 abbrev pub raise_of : List Period → Raised → ℕ → Call
-raise_of periods raised moment =
-    Raise (key_of periods raised.event raised.payload) (record { event = raised.event; payload = raised.payload; moment = moment })
+raise_of periods raised moment = Raise (key_of periods raised.event raised.payload) (event_of raised moment)
 
 -- an open window: its deadline, and the event that is kept in it
 pub record Open : Type 0 where

@@ -2,7 +2,7 @@ ghost use Rattle.std.specs.Prelude.{◌≡◌, ◌<◌, List, [], length, map, I
 ghost use Rattle.std.specs.Option.{option_to_list};
 ghost use Rattle.qm_json.specs.Cleanness.{are_distinct};
 ghost use Rattle.qm_throttle.specs.Steps.{Follows, Steps, Does, IsHeld};
-ghost use Rattle.qm_throttle.specs.Windows.{Call, Tick, raise_of, due_of};
+ghost use Rattle.qm_throttle.specs.Windows.{Call, Tick, event_of, raise_of, due_of};
 
 use crate::keys::key_of;
 use crate::sent::{Sent, SentList};
@@ -87,8 +87,7 @@ impl Throttle {
         ensures ok { IfOk result (λ sent.
             Steps self.old (raise_of self.old.periods raised moment) (option_to_list sent) self.new) }
         ensures none { IfOk result (λ sent. (sent ≡ None) ↔ IsHeld self.old raised) }
-        ensures sent { IfOk result (λ sent. IfSome sent (λ event.
-            event ≡ record { event = raised.event; payload = raised.payload; moment = moment })) }
+        ensures event { IfOk result (λ sent. IfSome sent (λ event. event ≡ event_of raised moment)) }
         ensures err { OnErr result (self.new ≡ self.old) }
     {
         self.raise_in(alloc, raised, moment)
@@ -113,21 +112,19 @@ impl Throttle {
         requires { raised.event < length self.old.periods }
         ensures ok { IfOk result (λ sent.
             Does self.old (raise_of self.old.periods raised moment) (option_to_list sent) self.new) }
+        ensures none { IfOk result (λ sent. (sent ≡ None) ↔ IsHeld self.old raised) }
+        ensures event { IfOk result (λ sent. IfSome sent (λ event. event ≡ event_of raised moment)) }
         ensures err { OnErr result (self.new ≡ self.old) }
     {
         let period = &self.periods.as_slice()[raised.event as usize];
         let micros = period.micros;
-        let key = key_of(alloc, period, &raised.payload)?;
-        let Raised { event, payload } = raised;
-        let sent = Sent {
-            event,
-            payload,
-            moment,
-        };
         if micros == 0 {
-            return Ok(Some(sent));
+            return Ok(Some(Sent::at(raised, moment)));
         }
-        self.windows.raise(alloc, key, micros, sent)
+        let key = key_of(alloc, period, &raised.payload)?;
+        let event = Sent::at(raised, moment);
+        let sent = self.windows.raise(alloc, key, micros, event)?;
+        Ok(sent)
     }
 
     fn tick_all(&mut self, alloc: Global, moment: u64) -> Result<SentList, NoMemory>

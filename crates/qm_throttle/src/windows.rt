@@ -1,4 +1,4 @@
-ghost use Rattle.std.specs.Prelude.{◌≡◌, ◌<◌, [], IfOk, OnOk, OnErr};
+ghost use Rattle.std.specs.Prelude.{◌≡◌, ◌≢◌, ◌<◌, ◌↔◌, [], IfOk, IfSome, OnOk, OnErr};
 ghost use Rattle.std.specs.BTreeMap.{insert_entry};
 ghost use Rattle.std.specs.BTreeSet.{contains};
 ghost use Rattle.std.specs.List.{flat_map};
@@ -114,6 +114,8 @@ impl Windows {
         requires { 0 < period }
         ensures sent { IfOk result (λ sent. option_to_list sent ≡ (raised_among period key event self.old).sent) }
         ensures windows { OnOk result (self.new ≡ (raised_among period key event self.old).windows) }
+        ensures none { IfOk result (λ sent. (sent ≡ None) ↔ (window_at key self.old ≢ None)) }
+        ensures event { IfOk result (λ sent. IfSome sent (λ given. given ≡ event)) }
         ensures err { OnErr result (self.new ≡ self.old) }
     {
         let _ = self.map.len();
