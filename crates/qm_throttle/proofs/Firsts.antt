@@ -94,6 +94,6 @@ no_due [] (w ∷ ws) kept none =
     let found : is_due (w ∷ ws) (due_at w.1.deadline w.0) ≡ true = ap (λ (r : Ordering). ends_at w.1.deadline (cond (is_eq r) (Some w.1) (window_at w.0 ws))) (key_self w.0) ∙ same w.1.deadline in
     let lost : has_due [] (due_at w.1.deadline w.0) ≡ true = kept.dues (due_at w.1.deadline w.0) ∙ found in
     absurd cc
-    where
-      same : (n : ℕ) → (n == n) ≡ true
-      same n = grind (arith, nat_tests)
+  where
+    same : (n : ℕ) → (n == n) ≡ true
+    same n = grind (arith, nat_tests)

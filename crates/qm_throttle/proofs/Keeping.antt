@@ -82,10 +82,10 @@ kept_opened dues more ws new k v kept none lasts put opened = record {
   either q Equal is =
       ap (λ (b : Bool). cond b true (has_due dues q)) (tied_at v.deadline k q ∙ ap (λ (r : Ordering). cond (is_eq r) (v.deadline == q.deadline) false) is)
       ∙ ap (λ (b : Bool). cond (v.deadline == q.deadline) true b) (kept.dues q ∙ none_is_due ws k q none is) ∙ itself (v.deadline == q.deadline)
-      where
-        itself : (b : Bool) → cond b true false ≡ b
-        itself true = refl
-        itself false = refl
+    where
+      itself : (b : Bool) → cond b true false ≡ b
+      itself true = refl
+      itself false = refl
   either q Greater is =
       ap (λ (b : Bool). cond b true (has_due dues q)) (tied_at v.deadline k q ∙ ap (λ (r : Ordering). cond (is_eq r) (v.deadline == q.deadline) false) is) ∙ kept.dues q
 

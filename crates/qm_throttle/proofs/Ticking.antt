@@ -69,21 +69,21 @@ listed_all m ws (k ∷ keys) q =
     ∙ ap (λ (b : Bool). b || is_listed (flat_map (next_at m ws) keys) q) (listed_next m k (window_at k ws) q)
     ∙ ap (λ (b : Bool). cond (same_key k q.key) (next_ends m q.deadline (window_at k ws)) false || b) (listed_all m ws keys q)
     ∙ either (key_order k q.key) refl
-    where
-      apart : (r : Ordering) → key_order k q.key ≡ r → is_eq r ≡ false → (cond (is_eq r) (next_ends m q.deadline (window_at k ws)) false || (is_in q.key keys && next_ends m q.deadline (window_at q.key ws)))
-          ≡ ((same_key q.key k || is_in q.key keys) && next_ends m q.deadline (window_at q.key ws))
-      apart Less is h = sym (ap (λ (r : Ordering). (is_eq r || is_in q.key keys) && next_ends m q.deadline (window_at q.key ws)) (key_back k q.key Less is))
-      apart Equal is h = absurd cc
-      apart Greater is h = sym (ap (λ (r : Ordering). (is_eq r || is_in q.key keys) && next_ends m q.deadline (window_at q.key ws)) (key_back k q.key Greater is))
+  where
+    apart : (r : Ordering) → key_order k q.key ≡ r → is_eq r ≡ false → (cond (is_eq r) (next_ends m q.deadline (window_at k ws)) false || (is_in q.key keys && next_ends m q.deadline (window_at q.key ws)))
+        ≡ ((same_key q.key k || is_in q.key keys) && next_ends m q.deadline (window_at q.key ws))
+    apart Less is h = sym (ap (λ (r : Ordering). (is_eq r || is_in q.key keys) && next_ends m q.deadline (window_at q.key ws)) (key_back k q.key Less is))
+    apart Equal is h = absurd cc
+    apart Greater is h = sym (ap (λ (r : Ordering). (is_eq r || is_in q.key keys) && next_ends m q.deadline (window_at q.key ws)) (key_back k q.key Greater is))
 
-      either : (r : Ordering) → key_order k q.key ≡ r → (cond (is_eq r) (next_ends m q.deadline (window_at k ws)) false || (is_in q.key keys && next_ends m q.deadline (window_at q.key ws)))
-          ≡ ((same_key q.key k || is_in q.key keys) && next_ends m q.deadline (window_at q.key ws))
-      either Less is = apart Less is refl
-      either Equal is =
-          ap (λ (j : Key). next_ends m q.deadline (window_at j ws) || (is_in q.key keys && next_ends m q.deadline (window_at q.key ws))) (key_equal k q.key is)
-          ∙ absorbed (is_in q.key keys) (next_ends m q.deadline (window_at q.key ws))
-          ∙ sym (ap (λ (r : Ordering). (is_eq r || is_in q.key keys) && next_ends m q.deadline (window_at q.key ws)) (key_back k q.key Equal is))
-      either Greater is = apart Greater is refl
+    either : (r : Ordering) → key_order k q.key ≡ r → (cond (is_eq r) (next_ends m q.deadline (window_at k ws)) false || (is_in q.key keys && next_ends m q.deadline (window_at q.key ws)))
+        ≡ ((same_key q.key k || is_in q.key keys) && next_ends m q.deadline (window_at q.key ws))
+    either Less is = apart Less is refl
+    either Equal is =
+        ap (λ (j : Key). next_ends m q.deadline (window_at j ws) || (is_in q.key keys && next_ends m q.deadline (window_at q.key ws))) (key_equal k q.key is)
+        ∙ absorbed (is_in q.key keys) (next_ends m q.deadline (window_at q.key ws))
+        ∙ sym (ap (λ (r : Ordering). (is_eq r || is_in q.key keys) && next_ends m q.deadline (window_at q.key ws)) (key_back k q.key Equal is))
+    either Greater is = apart Greater is refl
 
 -- the window of a key after a tick
 at_ticked : (m : ℕ) (ws : List (Key × Window)) (q : Key) → IsInOrder (keys_of ws) → window_at q (flat_map (ticked m) ws) ≡ ticked_of m (window_at q ws)

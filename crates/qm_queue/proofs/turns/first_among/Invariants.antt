@@ -1,0 +1,6 @@
+use Rattle.std.proofs.Common.{take}
+use Rattle.qm_queue.proofs.Orders.{IsFirst}
+use Rattle.qm_queue.proofs.turns.first_among.Given as goal
+
+abbrev pub invariant-loop-item : goal.invariant-loop-item
+invariant-loop-item l = IsFirst (take l.item-index l.waiting) l.first

@@ -1,0 +1,71 @@
+ghost use Rattle.std.specs.Prelude.{◌≡◌};
+ghost use Rattle.qm_queue.specs.Turns.{precedes, earlier_of, first_of, starts_earlier as is_earlier, turn_of};
+
+use qm_base::GrowingList;
+
+/// A session that waits, and the number of the entry that last started a request of it; `None`
+/// where no request of it was ever started.
+#[derive(Clone, Copy, Debug, PartialEq, Eq)]
+pub struct TurnItem {
+    /// The session's number.
+    pub session: u32,
+    /// The number of the entry.
+    pub last_start: Option<u64>,
+}
+
+/// Sessions that wait.
+pub type TurnList = GrowingList<TurnItem>;
+
+/// Whether the one last start stands earlier than the other; none comes before all.
+fn starts_earlier(one: Option<u64>, other: Option<u64>) -> bool
+    ensures { result ≡ is_earlier one other }
+{
+    match (one, other) {
+        (None, Some(_)) => true,
+        (Some(one), Some(other)) => one < other,
+        _ => false,
+    }
+}
+
+/// Whether the one has its turn before the other.
+fn comes_before(one: &TurnItem, other: &TurnItem) -> bool
+    ensures { result ≡ precedes one.now other.now }
+{
+    if starts_earlier(one.last_start, other.last_start) {
+        return true;
+    }
+    if starts_earlier(other.last_start, one.last_start) {
+        return false;
+    }
+    one.session < other.session
+}
+
+/// The item of the two that has its turn before the other.
+pub(crate) fn earlier(one: Option<TurnItem>, other: Option<TurnItem>) -> Option<TurnItem>
+    ensures { result ≡ earlier_of one other }
+{
+    match (one, other) {
+        (Some(a), Some(b)) => { if comes_before(&b, &a) { other } else { one } }
+        (None, _) => other,
+        (Some(_), None) => one,
+    }
+}
+
+/// The item that no other precedes.
+fn first_among(waiting: &[TurnItem]) -> Option<TurnItem>
+    ensures { result ≡ first_of waiting.now }
+{
+    let mut first: Option<TurnItem> = None;
+    for item in waiting {
+        first = earlier(first, Some(*item));
+    }
+    first
+}
+
+/// The session among these whose last start stands earliest. One that was never started comes
+/// before all that were, and ties go to the lower number. `None` where no session waits.
+pub fn next_turn(waiting: &TurnList) -> Option<u32>
+    ensures { result ≡ turn_of waiting.now }
+{
+    first_among(waiting.as_slice()).map(|item| item.session)
+}
