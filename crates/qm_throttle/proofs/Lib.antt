@@ -1,0 +1,13 @@
+pub mod Calls
+pub mod Coming
+pub mod Copying
+pub mod Cuts
+pub mod Dues
+pub mod Ending
+pub mod Firsts
+pub mod Keeping
+pub mod Orders
+pub mod Periods
+pub mod Raising
+pub mod Sorting
+pub mod Ticking

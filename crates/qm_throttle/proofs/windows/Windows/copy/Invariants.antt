@@ -1,0 +1,15 @@
+use Rattle.std.proofs.Common.{◌≡◌, ◌++◌}
+use Rattle.std.specs.List.Sorted.{IsStrictlySortedBy}
+use Rattle.std.specs.Map.{keys_of}
+use Rattle.qm_throttle.specs.Deadlines.{Lasts}
+use Rattle.qm_throttle.specs.Keys.{key_order}
+use Rattle.qm_throttle.specs.Steps.{window_at}
+use Rattle.qm_throttle.specs.declared.keys.Key.{Key}
+use Rattle.qm_throttle.proofs.windows.Windows.copy.Given as goal
+
+abbrev pub invariant-loop-key : goal.invariant-loop-key
+invariant-loop-key l = record {
+  copied : l.self ≡ l.copied ++ l.key-iterator;
+  sorted : IsStrictlySortedBy key_order (keys_of l.self);
+  lasting : (k : Key) → Lasts (window_at k l.self);
+}

@@ -1,0 +1,18 @@
+//! Events that are sent at most once a period for each key, the latest of them at its end.
+#![tactic(auto)]
+
+pub(crate) mod deadlines;
+pub(crate) mod due;
+pub(crate) mod endings;
+pub mod keys;
+pub mod laws;
+pub(crate) mod openings;
+pub mod sent;
+pub mod throttle;
+pub mod window;
+pub(crate) mod windows;
+
+pub use keys::Key;
+pub use sent::{Sent, SentList};
+pub use throttle::Throttle;
+pub use window::Window;
