@@ -1,6 +1,6 @@
 -- Shapes of values by those of the values inside. This serves private functions: shapes are stated
 -- without it.
-use Rattle.std.specs.Prelude.{◌≡◌, ◌==◌, Bool, true, false, not, ◌&&◌, ◌||◌, List, length}
+use Rattle.std.specs.Prelude.{◌≡◌, ◌==◌, ℕ, ◌+◌, Bool, true, false, not, ◌&&◌, ◌||◌, List, [], ◌∷◌, length}
 use Rattle.std.specs.List.{list_all}
 use Rattle.qapi_tree.specs.declared.shapes.Wanted.{Wanted}
 use Rattle.qapi_tree.specs.declared.table.Form.{Form}
@@ -10,10 +10,43 @@ use Rattle.qapi_tree.specs.declared.table.ListRule.TheVariants as list
 use Rattle.qapi_tree.specs.declared.table.DictRule.{DictRule}
 use Rattle.qapi_tree.specs.declared.table.DictRule.TheVariants as dict
 use Rattle.qapi_tree.specs.declared.tree.Tree.{Tree}
+use Rattle.qapi_tree.specs.declared.tree.Tree.TheOpen.{Tree-F, TreeMember-F}
+use Rattle.qapi_tree.specs.declared.tree.Tree.TheOpen as layer
+use Rattle.qapi_tree.specs.declared.tree.Tree.TheFolds.{fold-Tree}
 use Rattle.qapi_tree.specs.declared.tree.TreeMember.{TreeMember}
 use Rattle.qapi_tree.specs.Keys.{has_key}
 use Rattle.qapi_tree.specs.Shapes.{key_in, is_needed, rule_for, fits_rule, has_shape}
 use Rattle.qapi_tree.specs.Table.{name, keys}
+
+abbrev pub total : List ℕ → ℕ
+total [] = 0
+total (n ∷ ns) = n + total ns
+
+abbrev pub count_layer : Tree-F ℕ ℕ → ℕ
+count_layer (layer.Tree-F.Flag b) = 1
+count_layer (layer.Tree-F.Str text) = 1
+count_layer (layer.Tree-F.List items) = total items + 1
+count_layer (layer.Tree-F.Dict members) = total members + 1
+
+abbrev pub count_member : TreeMember-F ℕ ℕ → ℕ
+count_member m = m.tree
+
+-- how many values a value has, itself among them
+abbrev pub count_of : Tree → ℕ
+count_of = fold-Tree ℕ ℕ count_layer count_member
+
+abbrev pub items_count : List Tree → ℕ
+items_count [] = 0
+items_count (t ∷ ts) = count_of t + items_count ts
+
+abbrev pub values_count : List TreeMember → ℕ
+values_count [] = 0
+values_count (m ∷ ms) = count_of m.tree + values_count ms
+
+-- how many values are still to be looked at
+abbrev pub left_in : List Wanted → ℕ
+left_in [] = 0
+left_in (w ∷ ws) = count_of w.tree.now + left_in ws
 
 -- each value that is asked about has its shape
 abbrev pub are_shaped : List Wanted → Bool

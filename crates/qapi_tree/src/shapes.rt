@@ -1,8 +1,8 @@
-ghost use Rattle.std.specs.Prelude.{◌≡◌, ◌&&◌, OnOk, IfOk};
+ghost use Rattle.std.specs.Prelude.{◌≡◌, ◌+◌, ◌≤◌, ◌<◌, ◌&&◌, OnOk, IfOk};
 ghost use Rattle.std.specs.Option.{option_copied};
 ghost use Rattle.std.specs.Str.{bytes_eq};
 ghost use Rattle.qapi_tree.specs.Shapes.{key_in, shape_in, is_needed as needed, rule_for as rule_of_key, takes_text as text_taken, takes_flag as flag_taken, has_shape};
-ghost use Rattle.qapi_tree.specs.Asking.{are_shaped, items_have, values_have, has_needed_keys as needed_keys, member_fits, members_fit, list_fits, dict_fits, Asks};
+ghost use Rattle.qapi_tree.specs.Asking.{are_shaped, items_have, values_have, has_needed_keys as needed_keys, member_fits, members_fit, list_fits, dict_fits, Asks, count_of, items_count, values_count, left_in};
 ghost use Rattle.qapi_tree.specs.Keys.{has_key as has_key_of};
 ghost use Rattle.qapi_tree.specs.Table.{name};
 
@@ -84,9 +84,11 @@ fn takes_flag(rule: ScalarRule) -> bool
     }
 }
 
+#[tactic(auto, using(crate::proofs::CountLaws::pushed))]
 fn ask<'a>(pending: &mut Vec<Wanted<'a>>, tree: &'a Tree, shape: Shape) -> Result<(), NoMemory>
-    ensures { OnOk result (are_shaped pending.new.items
+    ensures shapes { OnOk result (are_shaped pending.new.items
         ≡ (has_shape tree.now shape && are_shaped pending.old.items)) }
+    ensures left { OnOk result (left_in pending.new.items ≡ left_in pending.old.items + count_of tree.now) }
 {
     match pending.push(Wanted { tree, shape }) {
         Ok(()) => Ok(()),
@@ -95,13 +97,15 @@ fn ask<'a>(pending: &mut Vec<Wanted<'a>>, tree: &'a Tree, shape: Shape) -> Resul
 }
 
 /// Asks for a shape of each item.
+#[tactic(auto, using(crate::proofs::CountLaws::item_next))]
 fn ask_items<'a>(
     pending: &mut Vec<Wanted<'a>>,
     items: &'a [Tree],
     shape: Shape,
 ) -> Result<(), NoMemory>
-    ensures { OnOk result (are_shaped pending.new.items
+    ensures shapes { OnOk result (are_shaped pending.new.items
         ≡ (items_have shape items.now && are_shaped pending.old.items)) }
+    ensures left { OnOk result (left_in pending.new.items ≡ left_in pending.old.items + items_count items.now) }
 {
     for item in items {
         ask(pending, item, shape)?;
@@ -110,13 +114,15 @@ fn ask_items<'a>(
 }
 
 /// Asks for a shape of each value.
+#[tactic(auto, using(crate::proofs::CountLaws::value_next))]
 fn ask_values<'a>(
     pending: &mut Vec<Wanted<'a>>,
     members: &'a [TreeMember],
     shape: Shape,
 ) -> Result<(), NoMemory>
-    ensures { OnOk result (are_shaped pending.new.items
+    ensures shapes { OnOk result (are_shaped pending.new.items
         ≡ (values_have shape members.now && are_shaped pending.old.items)) }
+    ensures left { OnOk result (left_in pending.new.items ≡ left_in pending.old.items + values_count members.now) }
 {
     for member in members {
         ask(pending, &member.tree, shape)?;
@@ -130,8 +136,9 @@ fn ask_member<'a>(
     form: Form,
     member: &'a TreeMember,
 ) -> Result<bool, NoMemory>
-    ensures { IfOk result (λ answer. Asks answer (are_shaped pending.new.items)
+    ensures shapes { IfOk result (λ answer. Asks answer (are_shaped pending.new.items)
         (member_fits form member.now) (are_shaped pending.old.items)) }
+    ensures left { IfOk result (λ _. left_in pending.new.items ≤ left_in pending.old.items + count_of member.now.tree) }
 {
     match rule_for(form, member.key.as_slice()) {
         Some(rule) => {
@@ -148,8 +155,9 @@ fn ask_members<'a>(
     form: Form,
     members: &'a [TreeMember],
 ) -> Result<bool, NoMemory>
-    ensures { IfOk result (λ answer. Asks answer (are_shaped pending.new.items)
+    ensures shapes { IfOk result (λ answer. Asks answer (are_shaped pending.new.items)
         (members_fit form members.now) (are_shaped pending.old.items)) }
+    ensures left { IfOk result (λ _. left_in pending.new.items ≤ left_in pending.old.items + values_count members.now) }
 {
     for member in members {
         if !ask_member(pending, form, member)? {
@@ -179,8 +187,9 @@ fn ask_list<'a>(
     rule: ListRule,
     items: &'a [Tree],
 ) -> Result<bool, NoMemory>
-    ensures { IfOk result (λ answer. Asks answer (are_shaped pending.new.items)
+    ensures shapes { IfOk result (λ answer. Asks answer (are_shaped pending.new.items)
         (list_fits rule items.now) (are_shaped pending.old.items)) }
+    ensures left { IfOk result (λ _. left_in pending.new.items ≤ left_in pending.old.items + items_count items.now) }
 {
     match rule {
         ListRule::Never => Ok(false),
@@ -204,8 +213,9 @@ fn ask_dict<'a>(
     rule: DictRule,
     members: &'a [TreeMember],
 ) -> Result<bool, NoMemory>
-    ensures { IfOk result (λ answer. Asks answer (are_shaped pending.new.items)
+    ensures shapes { IfOk result (λ answer. Asks answer (are_shaped pending.new.items)
         (dict_fits rule members.now) (are_shaped pending.old.items)) }
+    ensures left { IfOk result (λ _. left_in pending.new.items ≤ left_in pending.old.items + values_count members.now) }
 {
     match rule {
         DictRule::Never => Ok(false),
@@ -233,9 +243,11 @@ fn ask_dict<'a>(
 
 /// Asks for the shapes of the values inside; false if the value has not the shape whatever they
 /// are.
+#[tactic(auto, using(crate::proofs::CountLaws::count_flag, crate::proofs::CountLaws::count_str))]
 fn ask_inside<'a>(pending: &mut Vec<Wanted<'a>>, wanted: Wanted<'a>) -> Result<bool, NoMemory>
-    ensures { IfOk result (λ answer. Asks answer (are_shaped pending.new.items)
+    ensures shapes { IfOk result (λ answer. Asks answer (are_shaped pending.new.items)
         (has_shape wanted.entry.tree.now wanted.entry.shape) (are_shaped pending.old.items)) }
+    ensures left { IfOk result (λ _. left_in pending.new.items < left_in pending.old.items + count_of wanted.entry.tree.now) }
 {
     let Wanted { tree, shape } = wanted;
     let rule = rule_of(shape);
@@ -249,18 +261,16 @@ fn ask_inside<'a>(pending: &mut Vec<Wanted<'a>>, wanted: Wanted<'a>) -> Result<b
 
 /// Whether the value has the shape. A list of the values that are still to be looked at stands in
 /// place of recursion, since conditions nest without bound.
+#[tactic(auto, using(crate::proofs::CountLaws::pushed))]
 pub fn is_of_shape(alloc: Global, tree: &Tree, shape: Shape) -> Result<bool, NoMemory>
     ensures { IfOk result (λ answer. answer ≡ has_shape tree.now shape) }
 {
     let mut pending = Vec::new(alloc);
     ask(&mut pending, tree, shape)?;
-    for _turn in 0..u64::MAX {
-        let Some(wanted) = pending.pop() else {
-            return Ok(true);
-        };
+    'turn: while let Some(wanted) = pending.pop() {
         if !ask_inside(&mut pending, wanted)? {
             return Ok(false);
         }
     }
-    Err(NoMemory)
+    Ok(true)
 }

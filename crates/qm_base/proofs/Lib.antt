@@ -1,3 +1,4 @@
+pub mod Fresh
 pub mod Prefixes
 pub mod SearchLemmas
 pub mod Telling

@@ -1,6 +1,12 @@
 -- Tables of names.
 use Rattle.std.proofs.Common.{◌≡◌, ℕ, Bool, true, false, ◌||◌, List, [], ◌∷◌, ◌++◌, map, Some, Result, Ok, Err, IfOk, OnOk, refl, ap, sym, ◌∙◌}
 use Rattle.std.specs.Bool.{one_answer}
+use Rattle.std.specs.BTreeSet.{insert_key}
+use Rattle.std.specs.Cmp.Lexicographic.{slice_cmp}
+use Rattle.std.specs.Ordering.{is_eq, nat_cmp, match_ordering}
+use Rattle.std.specs.declared.cmp.Ordering.{Ordering}
+use Rattle.std.specs.declared.cmp.Ordering.TheVariants.{Less, Equal, Greater}
+use Rattle.std.proofs.lemmas.Map.Text.{is_eq-slice_cmp}
 use Rattle.std.specs.List.{list_any}
 use Rattle.std.specs.Prelude.{if◌then◌else◌}
 use Rattle.std.specs.Result.{is_ok}
@@ -31,17 +37,44 @@ last_of true c = refl
 last_of false true = refl
 last_of false false = refl
 
-module _ {K : Type 0} (f : K → List ℕ) where
-  abbrev same_name : K → K → Bool
-  same_name k j = bytes_eq (f k) (f j)
+first_or : (k x r : Bool) → (k || (x || r)) ≡ ((x || r) || k)
+first_or true true r = refl
+first_or true false true = refl
+first_or true false false = refl
+first_or false true r = refl
+first_or false false true = refl
+first_or false false false = refl
 
-  pub inserted : (b : Bool) (ks : List K) (k : K) → list_any (same_name k) ks ≡ b → AddsName (map f ks) (f k) (map f (if b then ks else ks ++ k ∷ []))
-  inserted true ks k e = λ other. either (is_named (map f ks) other) (bytes_eq other (f k)) (λ same. rw (same-bytes other (f k) same) (list_any-map f (bytes_eq (f k)) ks ∙ e))
-  inserted false ks k e = λ other. list_any-map f (bytes_eq other) (ks ++ k ∷ []) ∙ list_any-append (λ j. bytes_eq other (f j)) ks (k ∷ []) ∙ ap (λ b. b || (bytes_eq other (f k) || false)) (sym (list_any-map f (bytes_eq other) ks)) ∙ last_of (is_named (map f ks) other) (bytes_eq other (f k))
+same_or : (k x r : Bool) → k ≡ x → (x || r) ≡ ((x || r) || k)
+same_or k true r e = refl
+same_or k false true e = refl
+same_or k false false e = sym e
+
+last_or : (k x r more : Bool) → more ≡ (r || k) → (x || more) ≡ ((x || r) || k)
+last_or k true r more e = refl
+last_or k false r more e = e
+
+module _ {K : Type 0} (f : K → List ℕ) where
+  abbrev order : K → K → Ordering
+  order k j = slice_cmp nat_cmp (f k) (f j)
+
+  -- whether a name is there, by comparisons
+  pub found : (name : List ℕ) (ks : List K) → list_any (λ k. is_eq (slice_cmp nat_cmp name (f k))) ks ≡ is_named (map f ks) name
+  found name [] = refl
+  found name (k ∷ ks) = rw (is_eq-slice_cmp name (f k), found name ks) refl
+
+  placed : (other : List ℕ) (o : Ordering) (k x : K) (xs more : List K) → (o ≡ Equal → f k ≡ f x) → is_named (map f more) other ≡ (is_named (map f xs) other || bytes_eq other (f k)) → is_named (map f (match_ordering o (k ∷ x ∷ xs) (x ∷ xs) (x ∷ more))) other ≡ (is_named (map f (x ∷ xs)) other || bytes_eq other (f k))
+  placed other Less k x xs more same rest = first_or (bytes_eq other (f k)) (bytes_eq other (f x)) (is_named (map f xs) other)
+  placed other Equal k x xs more same rest = same_or (bytes_eq other (f k)) (bytes_eq other (f x)) (is_named (map f xs) other) (ap (bytes_eq other) (same refl))
+  placed other Greater k x xs more same rest = last_or (bytes_eq other (f k)) (bytes_eq other (f x)) (is_named (map f xs) other) (is_named (map f more) other) rest
+
+  inserted : (other : List ℕ) (ks : List K) (k : K) → is_named (map f (insert_key order ks k)) other ≡ (is_named (map f ks) other || bytes_eq other (f k))
+  inserted other [] k = first_or (bytes_eq other (f k)) false false
+  inserted other (x ∷ xs) k = placed other (order k x) k x xs (insert_key order xs k) (λ e. same-bytes (f k) (f x) (sym (is_eq-slice_cmp (f k) (f x)) ∙ ap is_eq e)) (inserted other xs k)
 
   -- a name was inserted, of names seen through f
-  pub added : (ks new : List K) (k : K) (old : List (List ℕ)) (name : List ℕ) → map f ks ≡ old → f k ≡ name → new ≡ (if list_any (same_name k) ks then ks else ks ++ k ∷ []) → AddsName old name (map f new)
-  added ks new k old name o n e = rw (← o, ← n, e) (inserted (list_any (same_name k) ks) ks k refl)
+  pub added : (ks new : List K) (k : K) (old : List (List ℕ)) (name : List ℕ) → map f ks ≡ old → f k ≡ name → new ≡ insert_key order ks k → AddsName old name (map f new)
+  added ks new k old name o n e = rw (← o, ← n, e) (λ other. inserted other ks k)
 
 -- what is known of an answer that is Ok
 pub of_ok : {A E P : Type 0} (r : Result A E) → is_ok r ≡ true → IfOk r (λ x. P) → P

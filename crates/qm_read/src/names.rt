@@ -1,15 +1,15 @@
 ghost use Rattle.std.specs.Prelude.{◌≡◌, [], OnOk};
 ghost use Rattle.qm_read.specs.Names.{is_named, AddsName};
 
-use indexmap::IndexSet;
 use qm_base::NoMemory;
 use std::alloc::Global;
+use std::collections::BTreeSet;
 use std::marker::Model;
 
 /// A table of names.
 #[derive(Drop)]
 pub struct NameTable {
-    names: IndexSet<Vec<u8>>,
+    names: BTreeSet<Vec<u8>>,
 }
 
 impl Model for NameTable {
@@ -26,7 +26,7 @@ impl NameTable {
         ensures { result ≡ [] }
     {
         NameTable {
-            names: IndexSet::new(alloc),
+            names: BTreeSet::new(alloc),
         }
     }
 

@@ -1,6 +1,6 @@
-//! A table of numerals, and each call that takes memory once.
+//! Numerals, and each call of texts, lists and shared values once.
 
-use crate::{CallList, ReservedList, Shared, Text, number};
+use qm_base::{GrowingList, History, ReservedList, Shared, Text, are_digits, is_space, number};
 use std::test::Fail;
 
 #[test]
@@ -20,6 +20,8 @@ fn numerals_are_read(rt: HostRuntime) -> Result<(), Fail> {
     for (text, value) in cases {
         assert!(rt; number(text) == value);
     }
+    assert!(rt; are_digits(b"0123456789") && !are_digits(b"1-"));
+    assert!(rt; is_space(b'\t') && !is_space(b'\x0B'));
     Ok(())
 }
 
@@ -30,8 +32,7 @@ fn a_text_grows_and_is_copied(rt: HostRuntime) -> Result<(), Fail> {
     text.extend(b"de")?;
     assert_eq!(rt; text.as_slice(), b"abcde".as_slice());
     assert_eq!(rt; text.len(), 5);
-    assert!(rt; !text.is_empty());
-    assert!(rt; Text::new(rt.alloc()).is_empty());
+    assert!(rt; !text.is_empty() && Text::new(rt.alloc()).is_empty());
     let copied = text.copy(rt.alloc())?;
     assert!(rt; copied.same(&text));
     text.push(b'f')?;
@@ -43,17 +44,19 @@ fn a_text_grows_and_is_copied(rt: HostRuntime) -> Result<(), Fail> {
 fn values_are_shared_and_listed(rt: HostRuntime) -> Result<(), Fail> {
     let first = Shared::new(rt.alloc(), 5u64)?;
     let second = first.again()?;
-    assert_eq!(rt; *first.get(), 5);
-    assert_eq!(rt; *second.get(), 5);
-    let mut list = ReservedList::new(rt.alloc(), 2)?;
-    list.put(3u64);
-    list.put(4u64);
-    assert!(rt; list.as_slice() == [3u64, 4u64].as_slice());
-    assert_eq!(rt; list.len(), 2);
-    let mut calls = CallList::new(rt.alloc());
-    calls.push(3)?;
-    calls.push(9)?;
-    assert!(rt; calls.as_slice() == [3u64, 9u64].as_slice());
-    assert!(rt; calls.has(3) && calls.has(9) && !calls.has(4));
+    assert!(rt; *first.get() == 5 && *second.get() == 5);
+    History::new().note(&first);
+    let mut reserved = ReservedList::new(rt.alloc(), 2)?;
+    reserved.put(3u64);
+    reserved.put(9u64);
+    assert_eq!(rt; reserved.as_slice(), [3u64, 9u64].as_slice());
+    assert_eq!(rt; reserved.len(), 2);
+    let mut growing = GrowingList::new(rt.alloc());
+    growing.push(3u64)?;
+    growing.push(9u64)?;
+    assert!(rt; growing.has(3) && growing.has(9) && !growing.has(4));
+    growing = GrowingList::from_vec(growing.into_vec());
+    assert_eq!(rt; growing.as_slice(), [3u64, 9u64].as_slice());
+    assert_eq!(rt; growing.len(), 2);
     Ok(())
 }

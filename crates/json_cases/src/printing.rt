@@ -1,9 +1,9 @@
-//! Printed texts, with escapes as in RFC 8259, section 7, and each call once.
+//! Printed texts, with escapes as in RFC 8259, section 7, the greeting, and each call once.
 
-use crate::{Json, MemberFault, Members, has_member};
-use qm_base::{NoMemory, Text};
+use qm_base::Text;
+use qm_caps::{Mode, bound, greeting, version};
+use qm_json::{Json, MemberFault, Members, has_member};
 use sqlite_items::Items;
-use std::alloc::Global;
 use std::process::Abort;
 use std::test::Fail;
 
@@ -41,59 +41,34 @@ fn strings_print_with_escapes(rt: HostRuntime) -> Result<(), Fail> {
 
 #[test]
 fn numbers_and_literals_print(rt: HostRuntime) -> Result<(), Fail> {
-    expect(&rt, &Json::Null, "null")?;
-    expect(&rt, &Json::Bool(true), "true")?;
-    expect(&rt, &Json::Bool(false), "false")?;
-    expect(&rt, &Json::Int(0), "0")?;
-    expect(
-        &rt,
-        &Json::Int(-9223372036854775808),
-        "-9223372036854775808",
-    )?;
-    expect(
-        &rt,
-        &Json::Int(18446744073709551615),
-        "18446744073709551615",
-    )?;
-    expect(
-        &rt,
-        &Json::Num(Text::of(rt.alloc(), b"-1.50E+2")?),
-        "-1.50E+2",
-    )?;
-    expect(&rt, &Json::Arr(Items::new(rt.alloc())), "[]")?;
-    expect(&rt, &Members::new(rt.alloc()).into_json(), "{}")?;
+    let cases = [
+        (Json::Null, "null"),
+        (Json::Bool(true), "true"),
+        (Json::Bool(false), "false"),
+        (Json::Int(0), "0"),
+        (Json::Int(-9223372036854775808), "-9223372036854775808"),
+        (Json::Int(18446744073709551615), "18446744073709551615"),
+        (Json::Num(Text::of(rt.alloc(), b"-1.50E+2")?), "-1.50E+2"),
+        (Json::Arr(Items::new(rt.alloc())), "[]"),
+        (Members::new(rt.alloc()).into_json(), "{}"),
+    ];
+    for (value, text) in &cases {
+        expect(&rt, value, text)?;
+    }
     Ok(())
-}
-
-fn version(alloc: Global) -> Result<Json, NoMemory> {
-    let mut numbers = Members::new(alloc);
-    numbers.add(alloc, b"micro", Json::Int(0))?;
-    numbers.add(alloc, b"minor", Json::Int(0))?;
-    numbers.add(alloc, b"major", Json::Int(1))?;
-    let mut version = Members::new(alloc);
-    version.add(alloc, b"qemu", numbers.into_json())?;
-    version.add(alloc, b"package", Json::string(alloc, b"qmpd")?)?;
-    Ok(version.into_json())
-}
-
-fn greeting(alloc: Global) -> Result<Json, Fail> {
-    let mut capabilities = Items::new(alloc);
-    capabilities.push(Json::string(alloc, b"oob")?)?;
-    let mut inner = Members::new(alloc);
-    inner.add(alloc, b"version", version(alloc)?)?;
-    inner.add(alloc, b"capabilities", Json::Arr(capabilities))?;
-    let mut greeting = Members::new(alloc);
-    greeting.add(alloc, b"QMP", inner.into_json())?;
-    Ok(greeting.into_json())
 }
 
 const GREETING: &str =
     "{\"QMP\": {\"version\": {\"qemu\": {\"micro\": 0, \"minor\": 0, \"major\": 1}, \"package\": \"qmpd\"}, \"capabilities\": [\"oob\"]}}";
 
+const VERSION: &str =
+    "{\"qemu\": {\"micro\": 0, \"minor\": 0, \"major\": 1}, \"package\": \"qmpd\"}";
+
 #[test]
-fn a_greeting_is_built_printed_and_copied(rt: HostRuntime) -> Result<(), Fail> {
+fn a_greeting_is_printed_and_copied(rt: HostRuntime) -> Result<(), Fail> {
     let value = greeting(rt.alloc())?;
     expect(&rt, &value, GREETING)?;
+    expect(&rt, &version(rt.alloc())?, VERSION)?;
     let copied = value.copy(rt.alloc())?;
     expect(&rt, &copied, GREETING)?;
     assert!(rt; copied.same(&value));
@@ -105,6 +80,14 @@ fn a_greeting_is_built_printed_and_copied(rt: HostRuntime) -> Result<(), Fail> {
         }
         None => panic!(rt; "no member"),
     }
+    Ok(())
+}
+
+#[test]
+fn modes_have_bounds(rt: HostRuntime) -> Result<(), Fail> {
+    assert_eq!(rt; bound(Mode::Negotiating), 1);
+    assert_eq!(rt; bound(Mode::Command), 1);
+    assert_eq!(rt; bound(Mode::CommandOob), 8);
     Ok(())
 }
 
