@@ -2,7 +2,7 @@ ghost use Rattle.std.specs.Prelude.{◌≡◌, ◌≢◌, ℕ, List, Option, Som
 ghost use Rattle.qm_base.specs.Faults.{Rose};
 ghost use Rattle.qapi_load.specs.Files.{NamedText, text_of};
 
-use qm_base::Text;
+use qm_base::{NoMemory, Text};
 use std::alloc::Global;
 
 /// Why a library gave no answer.
@@ -12,6 +12,17 @@ pub enum LibraryFault {
     Failed,
     /// No memory was left.
     Memory,
+}
+
+impl From<NoMemory> for LibraryFault {
+    ghost use Rattle.std.specs.Prelude.{◌≡◌};
+    ghost use Rattle.qapi_load.specs.declared.library.LibraryFault.TheVariants.{Memory};
+
+    ghost from_gives = { λ _ e. e ≡ Memory };
+
+    fn from(_fault: NoMemory) -> LibraryFault {
+        LibraryFault::Memory
+    }
 }
 
 /// Texts by name. Its faults are counted.

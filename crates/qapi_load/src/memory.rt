@@ -4,7 +4,7 @@ ghost use Rattle.qapi_load.specs.Files.{NamedText, text_of};
 ghost use Rattle.qm_base.specs.Calls.{fails_next, next_call};
 
 use crate::library::{Library, LibraryFault};
-use qm_base::{CallList, NoMemory, Text};
+use qm_base::{CallList, GrowingList, NoMemory, Text};
 use std::alloc::Global;
 use std::marker::Model;
 
@@ -47,48 +47,7 @@ impl LibraryFile {
 }
 
 /// Files in order.
-#[derive(Debug, Drop)]
-pub struct FileList {
-    items: Vec<LibraryFile>,
-}
-
-impl Model for FileList {
-    ghost use Rattle.std.specs.Prelude.{List};
-    ghost use Rattle.qapi_load.specs.Files.{NamedText};
-
-    ghost Value = { List NamedText };
-
-    ghost view = { λ f. f.items.items };
-}
-
-impl FileList {
-    /// No files. It takes no memory.
-    pub fn new(alloc: Global) -> FileList
-        ensures { result ≡ [] }
-    {
-        FileList {
-            items: Vec::new(alloc),
-        }
-    }
-
-    /// The files.
-    pub fn as_slice(&self) -> &[LibraryFile]
-        ensures { result.now ≡ self.now }
-    {
-        self.items.as_slice()
-    }
-
-    /// Appends a file. An error leaves the list as it was.
-    pub fn push(&mut self, file: LibraryFile) -> Result<(), NoMemory>
-        ensures ok { OnOk result (self.new ≡ self.old ++ file ∷ []) }
-        ensures err { OnErr result (self.new ≡ self.old) }
-    {
-        match self.items.push(file) {
-            Ok(()) => Ok(()),
-            Err(_) => Err(NoMemory),
-        }
-    }
-}
+pub type FileList = GrowingList<LibraryFile>;
 
 /// A library that holds its texts from the start. Calls are counted from 1, as far as 64 bits
 /// count.
@@ -114,10 +73,7 @@ fn found(alloc: Global, files: &[LibraryFile], name: &[u8]) -> Result<Option<Tex
 {
     match files.iter().find(|file| file.name() == name) {
         None => Ok(None),
-        Some(file) => match Text::of(alloc, file.text()) {
-            Ok(text) => Ok(Some(text)),
-            Err(NoMemory) => Err(NoMemory),
-        },
+        Some(file) => Ok(Some(Text::of(alloc, file.text())?)),
     }
 }
 
@@ -161,18 +117,10 @@ impl Library for MemoryLibrary {
         let call = self.calls.saturating_add(1);
         self.calls = call;
         if self.failing.has(call) {
-            return match Text::of(alloc, name) {
-                Ok(name) => {
-                    self.failed_name = name;
-                    self.faults = self.faults.saturating_add(1);
-                    Err(LibraryFault::Failed)
-                }
-                Err(NoMemory) => Err(LibraryFault::Memory),
-            };
+            self.failed_name = Text::of(alloc, name)?;
+            self.faults = self.faults.saturating_add(1);
+            return Err(LibraryFault::Failed);
         }
-        match found(alloc, self.files.as_slice(), name) {
-            Ok(text) => Ok(text),
-            Err(NoMemory) => Err(LibraryFault::Memory),
-        }
+        Ok(found(alloc, self.files.as_slice(), name)?)
     }
 }

@@ -14,10 +14,10 @@ use Rattle.qm_core.specs.declared.entries.Entry.TheVariants.{Open, Admit, Done, 
 use Rattle.qm_core.specs.declared.inputs.Input.{Input}
 use Rattle.qm_core.specs.declared.monitor.Monitor.TheInside.{Inside as Fields}
 use Rattle.qm_core.specs.declared.requests.Request.{Request}
-use Rattle.qm_core.specs.declared.requests.Started.{Started}
+use Rattle.qm_core.specs.declared.requests.RequestName.{RequestName}
 use Rattle.qm_core.specs.declared.sessions.Session.{Session}
 use Rattle.qm_core.specs.Inputs.{IsCleanInput}
-use Rattle.qm_core.specs.Kept.{HasPlace, IsSession, IsFirstOpen, IsRunning, IsSound, answered, sent, shown}
+use Rattle.qm_core.specs.Kept.{HasPlace, IsSession, IsFirstOpen, IsRunning, IsSound, answered, sent, view_of}
 use Rattle.qm_core.specs.Legal.{past_of}
 use Rattle.qm_core.specs.Order.{MayFollow}
 use Rattle.qm_core.specs.Replies.{reply_to, is_return}
@@ -29,7 +29,7 @@ use Rattle.qm_core.proofs.Texts.{text_more}
 
 -- the fields after one more entry are sound
 pub after_entry : (m : Fields) (e : Entry) (journal : Reserved Entry) (bytes : ℕ) (session : Session) (running : Option Request) (moment : ℕ) → IsSound m →
-    MayFollow (past_of m.journal.items) e → bytes ≡ length (entry_text_of (length m.journal.items + 1) e) → HasPlace (shown m) bytes (open_count_of (e ∷ past_of m.journal.items)) →
+    MayFollow (past_of m.journal.items) e → bytes ≡ length (entry_text_of (length m.journal.items + 1) e) → HasPlace (view_of m) bytes (open_count_of (e ∷ past_of m.journal.items)) →
     journal ≡ record m.journal { items = m.journal.items ++ e ∷ [] } →
     IsSession (e ∷ past_of m.journal.items) session → IsRunning (e ∷ past_of m.journal.items) running → moment ≡ last_moment_of (e ∷ past_of m.journal.items) →
     IsSound record { limits = m.limits; journal = journal; session = session; running = running; last_moment = moment }
@@ -51,7 +51,7 @@ after_entry m e journal bytes session running moment sound may size room added k
 pub sound-admit : (m : Fields) (journal : Reserved Entry) (s bytes : ℕ) (input waiting : Input) → IsSound m → IsFirstOpen (past_of m.journal.items) s →
     is_ended s (past_of m.journal.items) ≡ false → in_flight_of s (past_of m.journal.items) < bound_of (mode_of s (past_of m.journal.items)) → IsCleanInput input → waiting ≡ input →
     bytes ≡ length (entry_text_of (length m.journal.items + 1) (Admit s (admitted_of s (past_of m.journal.items) + 1) InBand input)) →
-    HasPlace (shown m) bytes (open_count_of (past_of m.journal.items)) →
+    HasPlace (view_of m) bytes (open_count_of (past_of m.journal.items)) →
     journal ≡ record m.journal { items = m.journal.items ++ Admit s (m.session.admitted + 1) InBand input ∷ [] } →
     IsSound record {
       limits = m.limits;
@@ -82,7 +82,7 @@ pub sound-done : (m : Fields) (journal : Reserved Entry) (s k bytes : ℕ) (requ
     running_of (past_of m.journal.items) ≡ Some request → request.session ≡ s → request.number ≡ k → s ≡ 1 →
     reply ≡ reply_to request → line ≡ printed (reply_to request) → commands ≡ (negotiates (Some request) && is_return (reply_to request)) → last ≡ max moment m.last_moment → last < 2 ^ 64 →
     bytes ≡ length (entry_text_of (length m.journal.items + 1) (Done s k reply last)) →
-    HasPlace (shown m) bytes (open_count_of (past_of m.journal.items)) →
+    HasPlace (view_of m) bytes (open_count_of (past_of m.journal.items)) →
     session ≡ answered m.session line commands →
     journal ≡ record m.journal { items = m.journal.items ++ Done s k reply last ∷ [] } →
     IsSound record { limits = m.limits; journal = journal; session = session; running = None; last_moment = last }
@@ -93,7 +93,7 @@ sound-done m journal s k bytes request reply line moment last commands session s
     let opens : commands ≡ (negotiates (running_of past) && is_return (reply_to request)) = rw runs change in
     rw (said, printing) (after_entry m (Done 1 k (reply_to request) last) journal bytes _ None last sound
     record {
-      running = rw runs (ap (λ (q : Started). Some q) (rw (named, numbered, one) refl));
+      running = rw runs (ap (λ (q : RequestName). Some q) (rw (named, numbered, one) refl));
       answer = rw runs refl;
       later = later;
       below = small;
@@ -102,7 +102,7 @@ sound-done m journal s k bytes request reply line moment last commands session s
 
 pub sound-open : (m : Fields) (journal : Reserved Entry) (bytes : ℕ) (line : List ℕ) → IsSound m → past_of m.journal.items ≡ [] →
     line ≡ printed greeting_value → bytes ≡ length (entry_text_of (length m.journal.items + 1) (Open 1)) →
-    HasPlace (shown m) bytes (open_count_of (Open 1 ∷ past_of m.journal.items)) →
+    HasPlace (view_of m) bytes (open_count_of (Open 1 ∷ past_of m.journal.items)) →
     journal ≡ record m.journal { items = m.journal.items ++ Open 1 ∷ [] } →
     IsSound record { limits = m.limits; journal = journal; session = record (sent m.session line) { opened = true }; running = m.running; last_moment = m.last_moment }
 sound-open m journal bytes line sound none greeting size room added =
@@ -112,7 +112,7 @@ sound-open m journal bytes line sound none greeting size room added =
 
 -- a drop has kept its place
 pub drop-place : (m : Fields) (s bytes : ℕ) (cause : Cause) → IsSound m → IsFirstOpen (past_of m.journal.items) s → bytes ≤ DROP_BYTES →
-    HasPlace (shown m) bytes (open_count_of (Drop s cause ∷ past_of m.journal.items))
+    HasPlace (view_of m) bytes (open_count_of (Drop s cause ∷ past_of m.journal.items))
 drop-place m s bytes cause sound first small =
     let past = past_of m.journal.items in
     let one = first.first in

@@ -6,7 +6,7 @@ use Rattle.std.proofs.lemmas.List.{length-reverse}
 use Rattle.qm_json.specs.Printing.{capped}
 use Rattle.qm_core.specs.Kept.{HasPlace, Placed, room_refusal}
 use Rattle.qm_core.specs.Legal.{past_of}
-use Rattle.qm_core.specs.Next.{Shown, full_refusal}
+use Rattle.qm_core.specs.Next.{View, full_refusal}
 use Rattle.qm_core.specs.Standing.{open_count_of}
 use Rattle.qm_core.specs.Texts.{entry_text_of, text_of}
 use Rattle.qm_core.specs.declared.TheConstants.{DROP_BYTES, MOST_TEXT}
@@ -24,7 +24,7 @@ abbrev refusal_by : ℕ → ℕ → ℕ → ℕ → ℕ → ℕ → Option StepF
 refusal_by count opened entries before bytes most =
     cond (nat_le (count + 1 + opened) entries && nat_le (before + bytes + DROP_BYTES * opened) most) None (Some JournalFull)
 
-full-is : (m : Shown) (e : Entry) →
+full-is : (m : View) (e : Entry) →
     full_refusal m.limits (past_of m.journal) e
     ≡ refusal_by (length m.journal) (open_count_of (e ∷ past_of m.journal)) m.limits.entries (length (text_of m.journal)) (length (entry_text_of (length m.journal + 1) e)) m.limits.text
 full-is m e =
@@ -32,7 +32,7 @@ full-is m e =
     ap (λ (j : List Entry). refusal_by (length (past_of m.journal)) opened m.limits.entries (length (text_of j)) (length (entry_text_of (length (past_of m.journal) + 1) e)) m.limits.text) (reverse-reverse m.journal)
     ∙ ap (λ (n : ℕ). refusal_by n opened m.limits.entries (length (text_of m.journal)) (length (entry_text_of (n + 1) e)) m.limits.text) (length-reverse m.journal)
 
-room-full : (m : Shown) (e : Entry) (bytes opened : ℕ) → m.limits.text ≤ MOST_TEXT → bytes ≡ capped (length (entry_text_of (length m.journal + 1) e)) →
+room-full : (m : View) (e : Entry) (bytes opened : ℕ) → m.limits.text ≤ MOST_TEXT → bytes ≡ capped (length (entry_text_of (length m.journal + 1) e)) →
     opened ≡ open_count_of (e ∷ past_of m.journal) → room_refusal m bytes opened ≡ full_refusal m.limits (past_of m.journal) e
 room-full m e bytes opened short size count =
     let exact = length (entry_text_of (length m.journal + 1) e) in
@@ -46,7 +46,7 @@ uncapped : (bytes before kept most : ℕ) → before + capped bytes + kept ≤ m
 uncapped bytes before kept most within short = omega (arith, within, short)
 
 -- the room that was found is that of the entry
-pub placed : (m : Shown) (e : Entry) (at bytes opened : ℕ) (result : Result ℕ StepFault) → m.limits.text ≤ MOST_TEXT →
+pub placed : (m : View) (e : Entry) (at bytes opened : ℕ) (result : Result ℕ StepFault) → m.limits.text ≤ MOST_TEXT →
     at ≡ length m.journal + 1 → bytes ≡ capped (length (entry_text_of at e)) → opened ≡ open_count_of (e ∷ past_of m.journal) →
     result_err result ≡ room_refusal m bytes opened → IfOk result (λ n. n ≡ bytes) → IfOk result (λ n. HasPlace m n opened) → Placed m e result
 placed m e at bytes opened (Ok n) short number said count fault value room =

@@ -11,10 +11,10 @@ use Rattle.qm_core.specs.declared.entries.StepFault.{StepFault}
 use Rattle.qm_core.specs.declared.entries.StepFault.TheVariants.{NoSession, Closed, InputEnded, Busy, Nothing, NotRunning, NotDrained, WrongCause, SessionsFull}
 use Rattle.qm_core.specs.declared.monitor.Limits.{Limits}
 use Rattle.qm_core.specs.declared.requests.Request.{Request}
-use Rattle.qm_core.specs.declared.requests.Started.{Started}
+use Rattle.qm_core.specs.declared.requests.RequestName.{RequestName}
 use Rattle.qm_core.specs.Drained.{is_drained}
 use Rattle.qm_core.specs.Legal.{past_of, AllFollow, IsLegal}
-use Rattle.qm_core.specs.Next.{Next, Shown, Step, Open, Admit, Start, Finish, Take, End, Drop, IsCleanStep, entry_of, start_entry, refusal_of, full_refusal, session_refusal, cause_refusal, names, is_running}
+use Rattle.qm_core.specs.Next.{Next, View, Step, Open, Admit, Start, Finish, Take, End, Drop, IsCleanStep, entry_of, start_entry, refusal_of, full_refusal, session_refusal, cause_refusal, names, is_running}
 use Rattle.qm_core.specs.Order.{MayFollow, Holds}
 use Rattle.qm_core.specs.Standing.{sessions_of, was_opened, is_dropped, is_ended, is_open, in_flight_of, mode_of, running_of, starting_of, named_of, last_moment_of}
 use Rattle.qm_core.specs.Transcript.{has_overrun, untaken_of}
@@ -54,7 +54,7 @@ starts past None None runs turn h = absurd cc
 starts past None (Some q) runs turn h = record { idle = sym runs; turn = ap named_of (sym turn) }
 starts past (Some q) starting runs turn h = absurd cc
 
-named_is : (s k : ℕ) (running : Option Started) → names s k running ≡ true → running ≡ Some record { session = s; number = k }
+named_is : (s k : ℕ) (running : Option RequestName) → names s k running ≡ true → running ≡ Some record { session = s; number = k }
 named_is s k None h = absurd cc
 named_is s k (Some q) h =
     let same = both _ _ h in
@@ -97,6 +97,6 @@ may_follow limits past (Drop s why) small clean h =
     (let first = open_first s past (cause_refusal why (is_drained s past) (has_overrun s past)) h in
     record { is_open = first.0; holds = drops_for past s why first.1 })
 
-pub next_legal : (old : Shown) (step : Step) (fault : Option StepFault) (new : Shown) → Next old step fault new → IsCleanStep step → IsLegal old.journal → IsLegal new.journal
+pub next_legal : (old : View) (step : Step) (fault : Option StepFault) (new : View) → Next old step fault new → IsCleanStep step → IsLegal old.journal → IsLegal new.journal
 next_legal old step (Some f) new next clean legal = rw next.journal legal
 next_legal old step None new next clean legal = rw next.journal (legal-append old.journal (entry_of (past_of old.journal) step) legal (may_follow old.limits (past_of old.journal) step (last-below (past_of old.journal) legal) clean next.answer))

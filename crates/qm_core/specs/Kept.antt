@@ -5,7 +5,7 @@ use Rattle.std.specs.Option.{option_to_list}
 use Rattle.std.specs.Result.{result_err}
 use Rattle.qm_caps.specs.declared.mode.Mode.TheVariants.{Command, Negotiating}
 use Rattle.qm_core.specs.Legal.{past_of, IsLegal, HasRoom}
-use Rattle.qm_core.specs.Next.{Shown, Step, full_refusal, refusal_of}
+use Rattle.qm_core.specs.Next.{View, Step, full_refusal, refusal_of}
 use Rattle.qm_core.specs.Standing.{sessions_of, is_open, is_dropped, is_ended, open_count_of, admitted_of, mode_of, waiting_of, running_of, last_moment_of}
 use Rattle.qm_core.specs.Texts.{entry_text_of, text_of}
 use Rattle.qm_core.specs.Transcript.{has_overrun, untaken_of, wire_of}
@@ -17,8 +17,8 @@ use Rattle.qm_core.specs.declared.monitor.Monitor.TheInside.{Inside as Fields}
 use Rattle.qm_core.specs.declared.requests.Request.{Request}
 use Rattle.qm_core.specs.declared.sessions.Session.{Session}
 
-abbrev pub shown : Fields → Shown
-shown m = record { limits = m.limits; journal = m.journal.items }
+abbrev pub view_of : Fields → View
+view_of m = record { limits = m.limits; journal = m.journal.items }
 
 -- a session that was not opened
 abbrev pub unopened : Session
@@ -61,22 +61,22 @@ pub record IsSound (m : Fields) : Type 0 where
   pub moment : m.last_moment ≡ last_moment_of (past_of m.journal.items)
 
 -- the refusal of a step
-abbrev pub refusal_in : Shown → Step → Option StepFault
+abbrev pub refusal_in : View → Step → Option StepFault
 refusal_in m step = refusal_of m.limits (past_of m.journal) step
 
 -- there is room for an entry of so many bytes, after which so many sessions are open
-pub record HasPlace (m : Shown) (bytes opened : ℕ) : Type 0 where
+pub record HasPlace (m : View) (bytes opened : ℕ) : Type 0 where
   pub entries : length m.journal + 1 + opened ≤ m.limits.entries
   pub text : length (text_of m.journal) + bytes + DROP_BYTES * opened ≤ m.limits.text
 
 -- the refusal without that room
-abbrev pub room_refusal : Shown → ℕ → ℕ → Option StepFault
+abbrev pub room_refusal : View → ℕ → ℕ → Option StepFault
 room_refusal m bytes opened =
     cond (nat_le (length m.journal + 1 + opened) m.limits.entries && nat_le (length (text_of m.journal) + bytes + DROP_BYTES * opened) m.limits.text)
     None (Some JournalFull)
 
 -- the room for an entry was looked for: the bytes of its text, or that the journal is full
-pub record Placed (m : Shown) (e : Entry) (result : Result ℕ StepFault) : Type 0 where
+pub record Placed (m : View) (e : Entry) (result : Result ℕ StepFault) : Type 0 where
   pub fault : result_err result ≡ full_refusal m.limits (past_of m.journal) e
   pub bytes : IfOk result (λ n. n ≡ length (entry_text_of (length m.journal + 1) e))
   pub room : IfOk result (λ n. HasPlace m n (open_count_of (e ∷ past_of m.journal)))

@@ -19,7 +19,7 @@ use Rattle.qm_core.specs.declared.entries.StepFault.{StepFault}
 use Rattle.qm_core.specs.declared.entries.StepFault.TheVariants.{NoSession, Closed, InputEnded, Busy, Nothing, NotRunning, NotDrained, WrongCause, SessionsFull, JournalFull}
 use Rattle.qm_core.specs.declared.inputs.Input.{Input}
 use Rattle.qm_core.specs.declared.monitor.Limits.{Limits}
-use Rattle.qm_core.specs.declared.requests.Started.{Started}
+use Rattle.qm_core.specs.declared.requests.RequestName.{RequestName}
 
 -- what is asked of a monitor
 pub data Step : Type 0 where
@@ -37,7 +37,7 @@ IsCleanStep (Admit s input) = IsCleanInput input
 IsCleanStep (Finish s k moment) = moment < 2 ^ 64
 IsCleanStep _ = Unit {0}
 
-abbrev pub start_entry : Option Started → Entry
+abbrev pub start_entry : Option RequestName → Entry
 start_entry None = entry.Start 0 0
 start_entry (Some q) = entry.Start q.session q.number
 
@@ -66,7 +66,7 @@ abbrev pub session_refusal : ℕ → List Entry → Option StepFault → Option 
 session_refusal s past others = cond (was_opened s past) (cond (is_dropped s past) (Some Closed) others) (Some NoSession)
 
 -- the request has the session and the number
-abbrev pub names : ℕ → ℕ → Option Started → Bool
+abbrev pub names : ℕ → ℕ → Option RequestName → Bool
 names s k None = false
 names s k (Some q) = q.session == s && q.number == k
 
@@ -103,7 +103,7 @@ refusal_of limits past (End s) = session_refusal s past
 refusal_of limits past (Drop s cause) = session_refusal s past (cause_refusal cause (is_drained s past) (has_overrun s past))
 
 -- what a monitor shows
-pub record Shown : Type 0 where
+pub record View : Type 0 where
   pub limits : Limits
   pub journal : List Entry
 
@@ -113,13 +113,13 @@ continued None journal e = journal ++ e ∷ []
 continued (Some fault) journal e = journal
 
 -- the step was answered by its first refusal, or its one entry was added
-pub record Next (old : Shown) (step : Step) (fault : Option StepFault) (new : Shown) : Type 0 where
+pub record Next (old : View) (step : Step) (fault : Option StepFault) (new : View) : Type 0 where
   pub answer : fault ≡ refusal_of old.limits (past_of old.journal) step
   pub journal : new.journal ≡ continued fault old.journal (entry_of (past_of old.journal) step)
   pub limits : new.limits ≡ old.limits
 
 -- it is stored as the limits and the journal
-abbrev pub shown_code : Coded Entry → Coded Shown
-shown_code code =
+abbrev pub view_code : Coded Entry → Coded View
+view_code code =
     code_by ((ℕ × ℕ) × List Entry) (coded× (coded× coded_ℕ coded_ℕ) (coded_list code)) (λ s. ((s.limits.entries, s.limits.text), s.journal))
     (λ p. record { limits = record { entries = p.0.0; text = p.0.1 }; journal = p.1 }) (λ _. refl)

@@ -11,7 +11,7 @@ use Rattle.qm_core.specs.Replies.{is_return}
 use Rattle.qm_core.specs.declared.entries.Entry.{Entry}
 use Rattle.qm_core.specs.declared.entries.Entry.TheVariants.{Open, Admit, Start, Done, Eof, Drop}
 use Rattle.qm_core.specs.declared.requests.Request.{Request}
-use Rattle.qm_core.specs.declared.requests.Started.{Started}
+use Rattle.qm_core.specs.declared.requests.RequestName.{RequestName}
 
 -- the sessions that were opened, in order
 abbrev pub sessions_of : List Entry → List ℕ
@@ -114,5 +114,5 @@ abbrev pub starting_of : List Entry → Option Request
 starting_of past = option_and_then (λ s. slice_get (waiting_of s past) 0) (turn_of past)
 
 -- a request by its session and number
-abbrev pub named_of : Option Request → Option Started
+abbrev pub named_of : Option Request → Option RequestName
 named_of request = option_map (λ q. record { session = q.session; number = q.number }) request

@@ -70,18 +70,18 @@ abbrev pub taken_text_of : List ℕ → List ℕ
 taken_text_of line = codes "> " ++ line ++ codes "\n"
 
 -- what an entry says after its number; the lines that were handed out follow it
-abbrev pub event_text_of : Entry → List ℕ
-event_text_of (Open s) = codes " open " ++ decimal s ++ codes "\n"
-event_text_of (Admit s k lane input) = codes " admit " ++ request_text_of s k ++ codes " " ++ lane_word_of lane ++ codes " " ++ input_text_of input ++ codes "\n"
-event_text_of (Start s k) = codes " start " ++ request_text_of s k ++ codes "\n"
-event_text_of (Done s k reply moment) = codes " done " ++ request_text_of s k ++ codes " @" ++ decimal moment ++ codes " " ++ printed reply ++ codes "\n"
-event_text_of (Take s lines) = codes " take " ++ decimal s ++ codes " " ++ decimal (length lines) ++ codes "\n" ++ flat_map taken_text_of lines
-event_text_of (Eof s) = codes " eof " ++ decimal s ++ codes "\n"
-event_text_of (Drop s cause) = codes " drop " ++ decimal s ++ codes " " ++ cause_word_of cause ++ codes "\n"
+abbrev pub entry_body_of : Entry → List ℕ
+entry_body_of (Open s) = codes " open " ++ decimal s ++ codes "\n"
+entry_body_of (Admit s k lane input) = codes " admit " ++ request_text_of s k ++ codes " " ++ lane_word_of lane ++ codes " " ++ input_text_of input ++ codes "\n"
+entry_body_of (Start s k) = codes " start " ++ request_text_of s k ++ codes "\n"
+entry_body_of (Done s k reply moment) = codes " done " ++ request_text_of s k ++ codes " @" ++ decimal moment ++ codes " " ++ printed reply ++ codes "\n"
+entry_body_of (Take s lines) = codes " take " ++ decimal s ++ codes " " ++ decimal (length lines) ++ codes "\n" ++ flat_map taken_text_of lines
+entry_body_of (Eof s) = codes " eof " ++ decimal s ++ codes "\n"
+entry_body_of (Drop s cause) = codes " drop " ++ decimal s ++ codes " " ++ cause_word_of cause ++ codes "\n"
 
 -- the text of the entry of this number
 abbrev pub entry_text_of : ℕ → Entry → List ℕ
-entry_text_of n e = decimal n ++ event_text_of e
+entry_text_of n e = decimal n ++ entry_body_of e
 
 abbrev pub text_from : ℕ → List Entry → List ℕ
 text_from n [] = []

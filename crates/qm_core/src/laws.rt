@@ -3,9 +3,10 @@
 ghost use Rattle.std.specs.Prelude.{◌≡◌, ℕ, List, ◌∷◌, ◌++◌, Option};
 ghost use Rattle.qm_base.specs.Prefixes.{IsPrefix};
 ghost use Rattle.qm_core.specs.Legal.{IsLegal, past_of};
-ghost use Rattle.qm_core.specs.Next.{Next, Shown, Step, IsCleanStep};
+ghost use Rattle.qm_core.specs.Next.{Next, View, Step, IsCleanStep};
 ghost use Rattle.qm_core.specs.Order.{MayFollow};
 ghost use Rattle.qm_core.specs.Transcript.{transcript_of, taken_of, untaken_of};
+ghost use Rattle.qm_core.specs.declared.TheConstants.{DROP_BYTES, MOST_ENTRIES, MOST_SESSIONS, MOST_TEXT, MOST_UNTAKEN};
 ghost use Rattle.qm_core.specs.declared.entries.Entry.{Entry};
 ghost use Rattle.qm_core.specs.declared.entries.StepFault.{StepFault};
 
@@ -26,6 +27,15 @@ pub fn taken_lines_begin_the_transcript()
 
 /// After each step of a monitor its journal is as legal as before.
 pub fn a_step_keeps_the_journal_legal()
-    ensures { (old : Shown) (step : Step) (fault : Option StepFault) (new : Shown) →
+    ensures { (old : View) (step : Step) (fault : Option StepFault) (new : View) →
         Next old step fault new → IsCleanStep step → IsLegal old.journal → IsLegal new.journal }
+{}
+
+/// The limits, as numbers.
+pub fn limits_are_these()
+    ensures sessions { MOST_SESSIONS ≡ 65535 }
+    ensures entries { MOST_ENTRIES ≡ 1000000 }
+    ensures text { MOST_TEXT ≡ 268435456 }
+    ensures drop { DROP_BYTES ≡ 64 }
+    ensures untaken { MOST_UNTAKEN ≡ 16777216 }
 {}

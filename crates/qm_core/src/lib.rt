@@ -25,7 +25,7 @@ pub use journal::EntryList;
 pub use lines::LineList;
 pub use monitor::{Limits, Monitor};
 pub use offers::Offer;
-pub use requests::{Admitted, Request, Started};
+pub use requests::{Admitted, Request, RequestName, Started};
 pub use verdicts::{Class, Command, Refusal, Verdict};
 pub use words::lane_word;
 

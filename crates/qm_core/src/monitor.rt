@@ -7,7 +7,7 @@ ghost use Rattle.qm_core.specs.Transcript.{has_overrun};
 
 use crate::entries::StepFault;
 use crate::journal::{EntryList, Journal};
-use crate::requests::{Request, Started};
+use crate::requests::{Request, RequestName};
 use crate::sessions::Session;
 use qm_base::NoMemory;
 use std::alloc::Global;
@@ -40,16 +40,16 @@ pub struct Monitor {
 }
 
 impl Model for Monitor {
-    ghost use Rattle.qm_core.specs.Next.{Shown, shown_code};
+    ghost use Rattle.qm_core.specs.Next.{View, view_code};
     ghost use Rattle.qm_core.specs.contracts.entries.Entry as entry;
 
-    ghost Value = { Shown };
+    ghost Value = { View };
 
-    ghost coded = { shown_code entry.the_row.coded };
+    ghost coded = { view_code entry.the_row.coded };
 
-    ghost use Rattle.qm_core.specs.Kept.{shown, IsSound};
+    ghost use Rattle.qm_core.specs.Kept.{view_of, IsSound};
 
-    ghost view = { shown };
+    ghost view = { view_of };
 
     ghost invariant = { IsSound };
 }
@@ -92,11 +92,11 @@ impl Monitor {
     }
 
     /// The request that was started and is not answered yet.
-    pub fn running(&self) -> Option<Started>
+    pub fn running(&self) -> Option<RequestName>
         ensures { result ≡ named_of (running_of (past_of self.now.journal)) }
     {
         match &self.running {
-            Some(request) => Some(Started {
+            Some(request) => Some(RequestName {
                 session: request.session,
                 number: request.number,
             }),

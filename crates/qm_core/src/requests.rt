@@ -23,6 +23,15 @@ pub struct Admitted {
     pub lane: Lane,
 }
 
+/// A request by its session and its number in it.
+#[derive(Clone, Copy, Debug, PartialEq, Eq)]
+pub struct RequestName {
+    /// Its session.
+    pub session: u32,
+    /// Its number in the session, from 1 on.
+    pub number: u64,
+}
+
 /// A request that was started.
 #[derive(Clone, Copy, Debug, PartialEq, Eq)]
 pub struct Started {

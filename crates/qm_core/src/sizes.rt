@@ -4,7 +4,7 @@
 ghost use Rattle.std.specs.Prelude.{◌≡◌, ◌+◌, ◌*◌, ◌++◌, ◌<◌, ◌≤◌, ◌^◌, length, codes, flat_map};
 ghost use Rattle.std.specs.Fmt.{decimal};
 ghost use Rattle.qm_json.specs.Printing.{capped};
-ghost use Rattle.qm_core.specs.Texts.{bad_word_of, entry_text_of, event_text_of, input_text_of, json_word_of, request_text_of, taken_text_of};
+ghost use Rattle.qm_core.specs.Texts.{bad_word_of, entry_text_of, entry_body_of, input_text_of, json_word_of, request_text_of, taken_text_of};
 ghost use Rattle.qm_core.specs.declared.TheConstants.{DROP_BYTES};
 ghost use Rattle.qm_core.specs.declared.entries.Entry.TheVariants.{Open, Admit, Start, Done, Take, Eof, Drop};
 

@@ -1,7 +1,7 @@
 ghost use Rattle.std.specs.Prelude.{◌≡◌, ◌++◌, codes, flat_map, length, OnOk};
 ghost use Rattle.std.specs.Fmt.{decimal};
 ghost use Rattle.qm_json.specs.Printing.{printed};
-ghost use Rattle.qm_core.specs.Texts.{bad_word_of, cause_word_of, entry_text_of, event_text_of, input_text_of, json_word_of, lane_word_of, request_text_of, taken_text_of};
+ghost use Rattle.qm_core.specs.Texts.{bad_word_of, cause_word_of, entry_text_of, entry_body_of, input_text_of, json_word_of, lane_word_of, request_text_of, taken_text_of};
 
 use itoa::Buffer;
 use qm_base::{NoMemory, Shared, Text};
@@ -170,8 +170,8 @@ fn put_drop(out: &mut Text, session: u32, cause: Cause) -> Result<(), NoMemory>
     out.push(b'\n')
 }
 
-fn put_event(out: &mut Text, entry: &Entry) -> Result<(), NoMemory>
-    ensures { OnOk result (out.new ≡ out.old ++ event_text_of entry.now) }
+fn put_body(out: &mut Text, entry: &Entry) -> Result<(), NoMemory>
+    ensures { OnOk result (out.new ≡ out.old ++ entry_body_of entry.now) }
 {
     match entry {
         Entry::Open { session } => put_open(out, *session),
@@ -199,5 +199,5 @@ pub fn put_entry(out: &mut Text, number: u64, entry: &Entry) -> Result<(), NoMem
     ensures { OnOk result (out.new ≡ out.old ++ entry_text_of number entry.now) }
 {
     put_number(out, number)?;
-    put_event(out, entry)
+    put_body(out, entry)
 }

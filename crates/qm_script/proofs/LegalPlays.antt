@@ -2,17 +2,19 @@
 use Rattle.std.proofs.Common.{◌≡◌, ℕ, ◌+◌, ◌==◌, ◌++◌, Bool, true, false, cond, List, [], ◌∷◌, length, Option, Some, None, IfSome, Result, Ok, Err, IfOk, ◌<◌, ◌^◌, refl}
 use Rattle.std.specs.List.{slice_get}
 use Rattle.qm_core.specs.Legal.{IsLegal, past_of}
-use Rattle.qm_core.specs.Next.{Shown, refusal_of, entry_of, session_refusal, IsCleanStep}
+use Rattle.qm_core.specs.Next.{View, refusal_of, entry_of, session_refusal, IsCleanStep}
 use Rattle.qm_core.specs.Next as step
 use Rattle.qm_core.specs.Standing.{sessions_of, admitted_of, running_of, named_of}
 use Rattle.qm_core.specs.declared.entries.StepFault.{StepFault}
 use Rattle.qm_core.specs.declared.inputs.Input.{Input}
 use Rattle.qm_core.specs.declared.monitor.Limits.{Limits}
-use Rattle.qm_core.specs.declared.requests.Started.{Started}
+use Rattle.qm_core.specs.declared.requests.RequestName.{RequestName}
 use Rattle.qm_core.proofs.StepLaws.{next_legal}
 use Rattle.qm_script.specs.Fed.{fed_inputs_of}
+use Rattle.qm_script.specs.Playing.{journal_of}
+use Rattle.qm_script.specs.Lines.{lines_of}
 use Rattle.qm_script.specs.Orders.{order_of, fed_by, hex_bytes_of, is_skipped}
-use Rattle.qm_script.specs.Playing.{Played, Ended, stepped, core_step, fed_step, fed_to, input_step, admit_step, finish_step, ordered, line_step, after_line, played_from}
+use Rattle.qm_script.specs.Playing.{Played, Ended, stepped, core_step, fed_step, fed_to, input_step, admit_step, finish_step, ordered, line_step, after_line, nothing_played, played_from}
 use Rattle.qm_script.specs.declared.endings.Stop.{Stop}
 use Rattle.qm_script.specs.declared.endings.Stop.TheVariants.{BadLine}
 use Rattle.qm_script.specs.declared.orders.Order.{Order}
@@ -27,8 +29,8 @@ GoesOn step = IfOk step (λ played. IsLegal played.journal)
 stepped_legal : (limits : Limits) (played : Played) (step : step.Step) (fault : Option StepFault) → fault ≡ refusal_of limits (past_of played.journal) step →
     IsCleanStep step → IsLegal played.journal → GoesOn (stepped played fault (entry_of (past_of played.journal) step))
 stepped_legal limits played step None answer clean legal =
-    let old : Shown = record { limits = limits; journal = played.journal } in
-    let new : Shown = record { limits = limits; journal = played.journal ++ entry_of (past_of played.journal) step ∷ [] } in
+    let old : View = record { limits = limits; journal = played.journal } in
+    let new : View = record { limits = limits; journal = played.journal ++ entry_of (past_of played.journal) step ∷ [] } in
     next_legal old step None new record { answer = answer; journal = refl; limits = refl } clean legal
 stepped_legal limits played step (Some fault) answer clean legal = tt
 
@@ -53,7 +55,7 @@ admit_legal limits played s None legal =
     input_legal limits played s (admitted_of s (past_of played.journal)) (slice_get (fed_inputs_of (fed_to s played.fed)) (admitted_of s (past_of played.journal))) refl legal
 admit_legal limits played s (Some fault) legal = tt
 
-finish_legal : (limits : Limits) (played : Played) (moment : ℕ) (request : Option Started) → moment < 2 ^ 64 → IsLegal played.journal → GoesOn (finish_step limits played moment request)
+finish_legal : (limits : Limits) (played : Played) (moment : ℕ) (request : Option RequestName) → moment < 2 ^ 64 → IsLegal played.journal → GoesOn (finish_step limits played moment request)
 finish_legal limits played moment None small legal = tt
 finish_legal limits played moment (Some request) small legal = core_legal limits played (step.Finish request.session request.number moment) small legal
 
@@ -78,8 +80,12 @@ after_legal : (n : ℕ) (played : Played) (step : Result Played Stop) (go : Play
 after_legal n played (Ok next) go legal goes later = later next goes
 after_legal n played (Err stop) go legal goes later = legal
 
-pub played_legal : (limits : Limits) (n : ℕ) (played : Played) (lines : List (List ℕ)) → IsLegal played.journal → IsLegal (played_from limits n played lines).played.journal
+played_legal : (limits : Limits) (n : ℕ) (played : Played) (lines : List (List ℕ)) → IsLegal played.journal → IsLegal (played_from limits n played lines).played.journal
 played_legal limits n played [] legal = legal
 played_legal limits n played (line ∷ lines) legal =
     after_legal n played (line_step limits played line) (λ next. played_from limits (n + 1) next lines) legal
     (line_legal (is_skipped line) limits played line legal) (λ next later. played_legal limits (n + 1) next lines later)
+
+-- the journal that a script plays is legal
+pub script_legal : (limits : Limits) (script : List ℕ) → IsLegal (journal_of limits script)
+script_legal limits script = played_legal limits 1 nothing_played (lines_of script) tt

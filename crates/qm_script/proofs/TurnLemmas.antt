@@ -5,7 +5,7 @@ use Rattle.qm_script.specs.Kept.{Turns}
 use Rattle.qm_script.specs.Lines.{lines_of}
 use Rattle.qm_script.specs.Players.{Playing}
 use Rattle.qm_script.specs.Playing.{Played, Ended, after_line, line_step, played_from}
-use Rattle.qm_script.specs.Runs.{Finishes}
+use Rattle.qm_script.specs.Kept.{Finishes}
 use Rattle.qm_script.specs.declared.endings.Stop.{Stop}
 use Rattle.qm_script.specs.declared.player.Turn.{Turn}
 

@@ -1,13 +1,15 @@
--- What the fields of a player keep (this project's own rule).
+-- What serves the private functions: what the fields of a player keep, and what a line and a script end with
+-- (this project's own rule).
 use Rattle.std.specs.Prelude.{◌≡◌, cond, [], ◌∷◌, is_some, Some, None, Result, Ok, Err}
 use Rattle.std.specs.Option.{option_to_list}
 use Rattle.qm_core.specs.Legal.{past_of}
 use Rattle.qm_core.specs.Standing.{sessions_of}
 use Rattle.qm_script.specs.Players.{Playing}
-use Rattle.qm_script.specs.Playing.{Played}
+use Rattle.qm_script.specs.Playing.{Played, Ended}
 use Rattle.qm_script.specs.declared.endings.Stop.{Stop}
 use Rattle.qm_script.specs.declared.player.Player.TheInside.{Inside as Fields}
 use Rattle.qm_script.specs.declared.player.Turn.{Turn}
+use Rattle.qm_script.specs.declared.replays.Finished.{Finished}
 
 abbrev pub shown : Fields → Playing
 shown p = record { limits = p.monitor.limits; played = record { journal = p.monitor.journal; fed = option_to_list p.feeder } }
@@ -20,3 +22,8 @@ IsFed p = sessions_of (past_of p.monitor.journal) ≡ cond (is_some p.feeder) (1
 abbrev pub Turns : Playing → Result Played Stop → Turn → Type 0
 Turns old (Ok next) turn = (turn.stop ≡ None) × (turn.player ≡ record { limits = old.limits; played = next })
 Turns old (Err stop) turn = (turn.stop ≡ Some stop) × (turn.player ≡ old)
+
+-- the journal and the refused line are those of the script
+pub record Finishes (ended : Ended) (finished : Finished) : Type 0 where
+  pub journal : finished.player.played.journal ≡ ended.played.journal
+  pub refused : finished.refused ≡ ended.refused

@@ -1,10 +1,8 @@
 pub mod Endings
 pub mod Fed
 pub mod Kept
-pub mod Laws
 pub mod Lines
 pub mod Orders
 pub mod Players
 pub mod Playing
 pub mod Plays
-pub mod Runs

@@ -10,7 +10,7 @@ use Rattle.qm_core.specs.declared.entries.Entry.{Entry}
 use Rattle.qm_core.specs.declared.entries.StepFault.{StepFault}
 use Rattle.qm_core.specs.declared.inputs.Input.{Input}
 use Rattle.qm_core.specs.declared.monitor.Limits.{Limits}
-use Rattle.qm_core.specs.declared.requests.Started.{Started}
+use Rattle.qm_core.specs.declared.requests.RequestName.{RequestName}
 use Rattle.qm_script.specs.Endings.{stop_of, closing_of}
 use Rattle.qm_script.specs.Fed.{fed_inputs_of}
 use Rattle.qm_script.specs.Lines.{lines_of}
@@ -61,7 +61,7 @@ admit_step limits played s None =
     input_step limits played s (slice_get (fed_inputs_of (fed_to s played.fed)) (admitted_of s (past_of played.journal)))
 admit_step limits played s (Some fault) = Err (stop_of fault)
 
-abbrev pub finish_step : Limits → Played → ℕ → Option Started → Result Played Stop
+abbrev pub finish_step : Limits → Played → ℕ → Option RequestName → Result Played Stop
 finish_step limits played moment None = Err (Step word.NotRunning)
 finish_step limits played moment (Some request) = core_step limits played (step.Finish request.session request.number moment)
 
@@ -103,6 +103,10 @@ nothing_played = record { journal = []; fed = [] }
 -- what a script plays
 abbrev pub played_of : Limits → List ℕ → Ended
 played_of limits script = played_from limits 1 nothing_played (lines_of script)
+
+-- the journal that a script plays
+abbrev pub journal_of : Limits → List ℕ → List Entry
+journal_of limits script = (played_of limits script).played.journal
 
 -- the transcript: the text of the journal, and the closing line
 abbrev pub transcript_text_of : Ended → List ℕ

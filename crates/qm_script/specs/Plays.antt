@@ -13,6 +13,10 @@ pub record Sinking : Type 0 where
   pub before : ℕ
   pub now : ℕ
 
+-- such a sink, by what tells of it
+abbrev pub sunk : {S : Type 0} → (S → Option (List ℕ)) → (S → ℕ) → S → S → Sinking
+sunk contents faults old new = record { held = contents old; holds = contents new; before = faults old; now = faults new }
+
 -- the answer of a play, with its cause
 pub record Plays (ended : Ended) (sinking : Sinking) (end : PlayEnd) : Type 0 where
   -- without a fault of the sink and want of memory, the end and the bytes are those of the script

@@ -37,10 +37,7 @@ fn make_input(alloc: Global, taken: Taken) -> Result<Input, NoMemory>
     ensures { IfOk result (λ input. input ≡ input_of taken) }
 {
     match taken {
-        Taken::Value(value) => match Shared::new(alloc, value) {
-            Ok(value) => Ok(Input::Doc(value)),
-            Err(NoMemory) => Err(NoMemory),
-        },
+        Taken::Value(value) => Ok(Input::Doc(Shared::new(alloc, value)?)),
         Taken::BadFrame(fault) => Ok(Input::Bad(BadInput::Frame(frame_word(fault)))),
         Taken::BadText(fault) => Ok(text_input(fault)),
     }
@@ -50,10 +47,7 @@ fn again(input: &Input) -> Result<Input, NoMemory>
     ensures { IfOk result (λ other. other ≡ input.now) }
 {
     match input {
-        Input::Doc(value) => match value.again() {
-            Ok(value) => Ok(Input::Doc(value)),
-            Err(NoMemory) => Err(NoMemory),
-        },
+        Input::Doc(value) => Ok(Input::Doc(value.again()?)),
         Input::Bad(bad) => Ok(Input::Bad(*bad)),
     }
 }
@@ -99,10 +93,10 @@ fn push(
     match framer.push(byte) {
         Step::More => Ok(()),
         Step::Bad(fault) => keep(inputs, alloc, Taken::BadFrame(fault)),
-        Step::Frame => match Taken::of_message(alloc, framer.frame()) {
-            Ok(taken) => keep(inputs, alloc, taken),
-            Err(NoMemory) => Err(NoMemory),
-        },
+        Step::Frame => {
+            let taken = Taken::of_message(alloc, framer.frame())?;
+            keep(inputs, alloc, taken)
+        }
     }
 }
 
@@ -146,10 +140,7 @@ impl Feeder {
         ensures clean { IfOk result (λ input. IfSome input IsCleanInput) }
     {
         match self.kept(place) {
-            Some(input) => match again(input) {
-                Ok(input) => Ok(Some(input)),
-                Err(NoMemory) => Err(NoMemory),
-            },
+            Some(input) => Ok(Some(again(input)?)),
             None => Ok(None),
         }
     }

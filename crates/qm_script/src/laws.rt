@@ -5,7 +5,7 @@ ghost use Rattle.qm_base.specs.Prefixes.{IsPrefix};
 ghost use Rattle.qm_core.specs.Legal.{IsLegal, past_of};
 ghost use Rattle.qm_core.specs.Transcript.{taken_of, transcript_of};
 ghost use Rattle.qm_core.specs.declared.monitor.Limits.{Limits};
-ghost use Rattle.qm_script.specs.Laws.{journal_of};
+ghost use Rattle.qm_script.specs.Playing.{journal_of};
 
 /// The journal that a script plays is legal, and the lines that were handed out to a session begin
 /// its transcript.

@@ -81,10 +81,7 @@ fn text_order(text: &[u8]) -> Option<Order>
     if blank_at(text).is_none() {
         return None;
     }
-    match session(before_blank(text)) {
-        Some(session) => Some(Order::Text(session)),
-        None => None,
-    }
+    Some(Order::Text(session(before_blank(text))?))
 }
 
 fn feed_order(text: &[u8]) -> Option<Order>
@@ -93,97 +90,62 @@ fn feed_order(text: &[u8]) -> Option<Order>
     if !is_hex(after_blank(text)) {
         return None;
     }
-    match session(before_blank(text)) {
-        Some(session) => Some(Order::Feed(session)),
-        None => None,
-    }
+    Some(Order::Feed(session(before_blank(text))?))
 }
 
 fn drop_order(text: &[u8]) -> Option<Order>
     ensures { result ≡ drop_order_of text.now }
 {
-    match session(before_blank(text)) {
-        Some(session) => match Cause::of_word(after_blank(text)) {
-            Some(cause) => Some(Order::Drop(session, cause)),
-            None => None,
-        },
-        None => None,
-    }
+    let session = session(before_blank(text))?;
+    Some(Order::Drop(session, Cause::of_word(after_blank(text))?))
 }
 
 fn session_after(word: &[u8], line: &[u8]) -> Option<u32>
     ensures { result ≡ session_after_of word.now line.now }
 {
-    match after_word(word, line) {
-        Some(text) => session(text),
-        None => None,
-    }
+    session(after_word(word, line)?)
 }
 
 fn text_line(line: &[u8]) -> Option<Order>
     ensures { result ≡ option_and_then text_order_of (after_word_of (codes "text ") line.now) }
 {
-    match after_word(b"text ", line) {
-        Some(text) => text_order(text),
-        None => None,
-    }
+    text_order(after_word(b"text ", line)?)
 }
 
 fn feed_line(line: &[u8]) -> Option<Order>
     ensures { result ≡ option_and_then feed_order_of (after_word_of (codes "feed ") line.now) }
 {
-    match after_word(b"feed ", line) {
-        Some(text) => feed_order(text),
-        None => None,
-    }
+    feed_order(after_word(b"feed ", line)?)
 }
 
 fn finish_line(line: &[u8]) -> Option<Order>
     ensures { result ≡ option_map Finish (option_and_then number_of (after_word_of (codes "finish ") line.now)) }
 {
-    match after_word(b"finish ", line) {
-        Some(text) => match number(text) {
-            Some(moment) => Some(Order::Finish(moment)),
-            None => None,
-        },
-        None => None,
-    }
+    Some(Order::Finish(number(after_word(b"finish ", line)?)?))
 }
 
 fn drop_line(line: &[u8]) -> Option<Order>
     ensures { result ≡ option_and_then drop_order_of (after_word_of (codes "drop ") line.now) }
 {
-    match after_word(b"drop ", line) {
-        Some(text) => drop_order(text),
-        None => None,
-    }
+    drop_order(after_word(b"drop ", line)?)
 }
 
 fn admit_line(line: &[u8]) -> Option<Order>
     ensures { result ≡ option_map Admit (session_after_of (codes "admit ") line.now) }
 {
-    match session_after(b"admit ", line) {
-        Some(session) => Some(Order::Admit(session)),
-        None => None,
-    }
+    Some(Order::Admit(session_after(b"admit ", line)?))
 }
 
 fn take_line(line: &[u8]) -> Option<Order>
     ensures { result ≡ option_map Take (session_after_of (codes "take ") line.now) }
 {
-    match session_after(b"take ", line) {
-        Some(session) => Some(Order::Take(session)),
-        None => None,
-    }
+    Some(Order::Take(session_after(b"take ", line)?))
 }
 
 fn eof_line(line: &[u8]) -> Option<Order>
     ensures { result ≡ option_map Eof (session_after_of (codes "eof ") line.now) }
 {
-    match session_after(b"eof ", line) {
-        Some(session) => Some(Order::Eof(session)),
-        None => None,
-    }
+    Some(Order::Eof(session_after(b"eof ", line)?))
 }
 
 fn long_order(line: &[u8]) -> Option<Order>

@@ -5,8 +5,8 @@ ghost use Rattle.qm_script.specs.Endings.{closing_of};
 ghost use Rattle.qm_core.specs.declared.TheConstants.{MOST_ENTRIES, MOST_TEXT};
 ghost use Rattle.qm_script.specs.Lines.{lines_of};
 ghost use Rattle.qm_script.specs.Playing.{played_from, played_of};
-ghost use Rattle.qm_script.specs.Plays.{Plays};
-ghost use Rattle.qm_script.specs.Runs.{Finishes};
+ghost use Rattle.qm_script.specs.Plays.{Plays, sunk};
+ghost use Rattle.qm_script.specs.Kept.{Finishes};
 
 use crate::closings::{closing, end_of};
 use crate::endings::{PlayEnd, Refused};
@@ -114,12 +114,7 @@ pub fn play<S: Sink>(alloc: Global, limits: Limits, script: &[u8], sink: &mut S)
     requires some { 1 ≤ limits.entries }
     requires few { limits.entries ≤ MOST_ENTRIES }
     requires short { limits.text ≤ MOST_TEXT }
-    ensures { Plays (played_of limits script.now) record {
-      held = S.contents sink.old;
-      holds = S.contents sink.new;
-      before = S.faults sink.old;
-      now = S.faults sink.new;
-    } result }
+    ensures { Plays (played_of limits script.now) (sunk S.contents S.faults sink.old sink.new) result }
 {
     match replayed(alloc, limits, script) {
         Ok(finished) => {

@@ -1,10 +1,10 @@
--- Words that are not three.
+-- Words that are neither one nor three.
 use Rattle.std.proofs.Common.{◌≡◌, ◌≢◌, ℕ, List, [], ◌∷◌, length, None, refl}
-use Rattle.qmpd.specs.Words.{script_and_journal}
+use Rattle.qmpd.specs.Words.{replay_words}
 
-pub not_three : (words : List (List ℕ)) → length words ≢ 3 → None ≡ script_and_journal words
-not_three [] other = refl
-not_three (a ∷ []) other = refl
-not_three (a ∷ b ∷ []) other = refl
-not_three (a ∷ b ∷ c ∷ []) other = absurd (other refl)
-not_three (a ∷ b ∷ c ∷ d ∷ more) other = refl
+pub not_one_or_three : (words : List (List ℕ)) → length words ≢ 1 → length words ≢ 3 → None ≡ replay_words words
+not_one_or_three [] one three = refl
+not_one_or_three (a ∷ []) one three = absurd (one refl)
+not_one_or_three (a ∷ b ∷ []) one three = refl
+not_one_or_three (a ∷ b ∷ c ∷ []) one three = absurd (three refl)
+not_one_or_three (a ∷ b ∷ c ∷ d ∷ more) one three = refl

@@ -1,17 +1,23 @@
 -- The answer of the top call, with its cause (this project's own rule).
-use Rattle.std.specs.Prelude.{◌≡◌, ◌≢◌, ℕ, List, Option, Some, None, ◌⊎◌}
+use Rattle.std.specs.Prelude.{◌≡◌, ◌≢◌, ℕ, true, false, List, Option, Some, None, option_map, ◌⊎◌}
 use Rattle.qm_base.specs.Faults.{Rose, told_more, HoldsPart}
+use Rattle.qm_base.specs.Prefixes.{IsPrefix}
 use Rattle.qapi_load.specs.Files.{NamedText}
+use Rattle.qm_core.specs.Legal.{IsLegal, past_of}
+use Rattle.qm_core.specs.Transcript.{taken_of, transcript_of}
 use Rattle.qm_script.specs.Plays.{Sinking}
-use Rattle.qmpd.specs.Output.{run_with, answer_of, cannot_read}
-use Rattle.qmpd.specs.Words.{Replay}
+use Rattle.qmpd.specs.Causes.{Misses, Stops}
+use Rattle.qmpd.specs.Output.{output_of, journal_for, cannot_read}
+use Rattle.qmpd.specs.Words.{replay_of}
 
--- what is asked, and the library and the sink before and after the run
+-- the words, and the library and the sink before and after the run: the files that the library
+-- tells, its count of faults, and the name of the latest file whose reading failed
 pub record Ran : Type 0 where
-  pub replay : Option Replay
+  pub words : List (List ℕ)
   pub files : Option (List NamedText)
   pub library_before : ℕ
   pub library_now : ℕ
+  pub failed_name : List ℕ
   pub sink : Sinking
 
 -- the answer of a part of the run that puts these bytes and wants this status: 1 where memory was
@@ -24,36 +30,49 @@ pub record Ends (bytes : List ℕ) (wanted : ℕ) (sinking : Sinking) (status : 
   pub failed : status ≡ 7 → Rose sinking.before sinking.now
   pub kept : status ≢ 7 → sinking.now ≡ sinking.before
 
--- a part of the line that names the script was put, since reading it failed
+-- a file that the words name
+abbrev pub IsNamed : List (List ℕ) → List ℕ → Type 0
+IsNamed words name = option_map (λ replay. replay.script) (replay_of words) ≡ Some name
+
+-- reading a file failed, and a part of the line that names it was put
 pub record PutsUnread (ran : Ran) : Type 0 where
-  pub replay : Replay
-  pub asked : ran.replay ≡ Some replay
   pub rose : Rose ran.library_before ran.library_now
-  pub part : HoldsPart ran.sink.held (cannot_read replay.script) ran.sink.holds
+  pub named : IsNamed ran.words ran.failed_name
+  pub part : HoldsPart ran.sink.held (cannot_read ran.failed_name) ran.sink.holds
+
+-- what a run puts out over these files
+pub record Gives (files : List NamedText) (ran : Ran) (status : ℕ) : Type 0 where
+  -- without a fault and with memory, status and bytes are those of the output
+  pub status_is : status ≢ 1 → status ≢ 6 → status ≢ 7 → status ≡ (output_of ran.words files).status
+  pub bytes_are : status ≢ 1 → status ≢ 6 → status ≢ 7 → ran.sink.holds ≡ told_more ran.sink.held (output_of ran.words files).bytes
+  -- after want of memory or a fault of the sink a part was put
+  pub wanting : status ≡ 1 → HoldsPart ran.sink.held (output_of ran.words files).bytes ran.sink.holds
+  pub sink_part : status ≡ 7 → HoldsPart ran.sink.held (output_of ran.words files).bytes ran.sink.holds ⊎ PutsUnread ran
+  -- 5 exactly where the script is missing, or its play stops at a bad line or a refused step
+  pub refused_only : status ≡ 5 → Misses ran.words files ⊎ Stops false ran.words files
+  pub missing : Misses ran.words files → status ≢ 1 → status ≢ 6 → status ≢ 7 → status ≡ 5
+  pub refused : Stops false ran.words files → status ≢ 1 → status ≢ 6 → status ≢ 7 → status ≡ 5
+  -- 9 exactly where its play stops at a full journal or full sessions
+  pub full_only : status ≡ 9 → Stops true ran.words files
+  pub full : Stops true ran.words files → status ≢ 1 → status ≢ 6 → status ≢ 7 → status ≡ 9
 
 pub record Answers (ran : Ran) (status : ℕ) : Type 0 where
-  -- what the library answers for the script: where it tells its files, the text of that name
-  pub answer : Option (List ℕ)
-  pub told : (files : List NamedText) → ran.files ≡ Some files → answer ≡ answer_of ran.replay files
-  -- without a fault and with memory, status and bytes are those of the output
-  pub status_is : status ≢ 1 → status ≢ 6 → status ≢ 7 → status ≡ (run_with ran.replay answer).status
-  pub bytes_are : status ≢ 1 → status ≢ 6 → status ≢ 7 → ran.sink.holds ≡ told_more ran.sink.held (run_with ran.replay answer).bytes
-  -- want of memory puts a part of the output
-  pub wanting : status ≡ 1 → HoldsPart ran.sink.held (run_with ran.replay answer).bytes ran.sink.holds
+  -- the files of the run; where the library tells its files, they are these
+  pub files : List NamedText
+  pub told : (told : List NamedText) → ran.files ≡ Some told → files ≡ told
+  pub gives : Gives files ran status
+  -- the journal that was played is legal, and what each session was handed begins its transcript
+  pub legal : IsLegal (journal_for ran.words files)
+  pub begins : (s : ℕ) → (let past = past_of (journal_for ran.words files) in IsPrefix (taken_of s past) (transcript_of s past))
   -- 2 exactly where the words are outside the grammar
-  pub usage_only : status ≡ 2 → ran.replay ≡ None
-  pub usage : ran.replay ≡ None → status ≢ 1 → status ≢ 7 → status ≡ 2
-  -- 5 exactly where the script is missing or a line of it is refused
-  pub refused_only : status ≡ 5 → (run_with ran.replay answer).status ≡ 5
-  pub refused : (run_with ran.replay answer).status ≡ 5 → status ≢ 1 → status ≢ 6 → status ≢ 7 → status ≡ 5
-  -- 9 exactly where a step of the script finds the journal or the sessions full
-  pub full_only : status ≡ 9 → (run_with ran.replay answer).status ≡ 9
-  pub full : (run_with ran.replay answer).status ≡ 9 → status ≢ 1 → status ≢ 6 → status ≢ 7 → status ≡ 9
-  -- 6 exactly where the library's count rose and the sink's did not; the line names the script
+  pub usage_only : status ≡ 2 → replay_of ran.words ≡ None
+  pub usage : replay_of ran.words ≡ None → status ≢ 1 → status ≢ 7 → status ≡ 2
+  -- 6 exactly where the library's count rose and the sink's did not; the words name the file whose
+  -- reading failed, and the line names it
   pub library_failed : status ≡ 6 → Rose ran.library_before ran.library_now
-  pub library_line : (replay : Replay) → ran.replay ≡ Some replay → status ≡ 6 → ran.sink.holds ≡ told_more ran.sink.held (cannot_read replay.script)
+  pub library_named : status ≡ 6 → IsNamed ran.words ran.failed_name
+  pub library_line : status ≡ 6 → ran.sink.holds ≡ told_more ran.sink.held (cannot_read ran.failed_name)
   pub library_kept : status ≢ 1 → status ≢ 6 → status ≢ 7 → ran.library_now ≡ ran.library_before
-  -- 7 exactly where the sink's count rose; a part was put
+  -- 7 exactly where the sink's count rose
   pub sink_failed : status ≡ 7 → Rose ran.sink.before ran.sink.now
   pub sink_kept : status ≢ 7 → ran.sink.now ≡ ran.sink.before
-  pub sink_part : status ≡ 7 → HoldsPart ran.sink.held (run_with ran.replay answer).bytes ran.sink.holds ⊎ PutsUnread ran

@@ -1,7 +1,9 @@
 -- What the program puts out, and its status, for words and files (this project's own rule).
-use Rattle.std.specs.Prelude.{ℕ, List, ◌++◌, codes, Option, Some, None}
+use Rattle.std.specs.Prelude.{ℕ, List, [], ◌++◌, codes, Option, Some, None, option_map, unwrap_or}
+use Rattle.std.specs.Option.{option_and_then}
 use Rattle.qapi_load.specs.Files.{NamedText, text_of}
 use Rattle.qm_core.specs.declared.TheConstants.{MOST_TEXT}
+use Rattle.qm_core.specs.declared.entries.Entry.{Entry}
 use Rattle.qm_core.specs.declared.monitor.Limits.{Limits}
 use Rattle.qm_script.specs.Playing.{Ended, played_of, transcript_text_of}
 use Rattle.qm_script.specs.Endings.{end_of}
@@ -40,23 +42,33 @@ replayed ended = record { status = end_status_of (end_of ended.refused); bytes =
 abbrev pub limits_of : ℕ → Limits
 limits_of entries = record { entries = entries; text = MOST_TEXT }
 
-abbrev pub replay_with : Replay → Option (List ℕ) → Output
-replay_with replay None = missing replay.script
-replay_with replay (Some script) = replayed (played_of (limits_of replay.entries) script)
+-- what is played of a script
+abbrev pub play_of : Replay → List ℕ → Ended
+play_of replay script = played_of (limits_of replay.entries) script
 
--- the output for a script to be replayed, by what the library answers for it
-abbrev pub run_with : Option Replay → Option (List ℕ) → Output
-run_with None answer = usage
-run_with (Some replay) answer = replay_with replay answer
+-- what is played where these are the files; nothing, where there is no such script
+abbrev pub play_from : List NamedText → Replay → Option Ended
+play_from files replay = option_map (play_of replay) (text_of replay.script files)
 
--- what files answer for the script
-abbrev pub answer_of : Option Replay → List NamedText → Option (List ℕ)
-answer_of None files = None
-answer_of (Some replay) files = text_of replay.script files
+-- what is played for words and files, if anything is
+abbrev pub play_for : List (List ℕ) → List NamedText → Option Ended
+play_for words files = option_and_then (play_from files) (replay_of words)
+
+-- the journal of that play
+abbrev pub journal_for : List (List ℕ) → List NamedText → List Entry
+journal_for words files = unwrap_or (option_map (λ ended. ended.played.journal) (play_for words files)) []
+
+abbrev pub replay_output : Replay → Option Ended → Output
+replay_output replay None = missing replay.script
+replay_output replay (Some ended) = replayed ended
+
+abbrev pub asked_output : List NamedText → Option Replay → Output
+asked_output files None = usage
+asked_output files (Some replay) = replay_output replay (play_from files replay)
 
 -- the status and the bytes for words and files
 abbrev pub output_of : List (List ℕ) → List NamedText → Output
-output_of words files = run_with (replay_of words) (answer_of (replay_of words) files)
+output_of words files = asked_output files (replay_of words)
 
 -- the line that names a file whose reading failed
 abbrev pub cannot_read : List ℕ → List ℕ

@@ -26,7 +26,7 @@ fn gathered(rt: &HostRuntime) -> io::Result<Vec<String>> {
 
 fn main(rt: HostRuntime) -> ExitCode {
     let mut library = FileLibrary::new(rt.alloc(), &rt);
-    let mut sink = OutSink::new(&rt);
+    let mut sink = OutSink::new(io::writer(&rt));
     match gathered(&rt) {
         Ok(words) => ExitCode::from(run_offline(
             rt.alloc(),

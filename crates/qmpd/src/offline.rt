@@ -1,9 +1,9 @@
-ghost use Rattle.std.specs.Prelude.{◌≡◌, ◌≢◌, ◌≤◌, ◌++◌, IfOk, Some, None, codes, map, string_bytes};
+ghost use Rattle.std.specs.Prelude.{◌≡◌, ◌≢◌, ◌≤◌, IfOk, map, string_bytes};
 ghost use Rattle.qmpd.specs.Answers.{Answers, Ends};
 ghost use Rattle.qmpd.specs.Output.{usage, missing as missing_of, limits_of, replayed, end_status_of, cannot_read as cannot_read_line};
 ghost use Rattle.qm_script.specs.Playing.{played_of};
 ghost use Rattle.qm_core.specs.declared.TheConstants.{MOST_ENTRIES};
-ghost use Rattle.qmpd.specs.Words.{replay_of as replay_of_words};
+ghost use Rattle.qm_script.specs.Plays.{sunk};
 
 use crate::words::replay_of;
 use qapi_load::{Library, LibraryFault};
@@ -49,12 +49,7 @@ fn status(end: PlayEnd) -> u8
 fn put<S: Sink>(line: &[u8], wanted: u8, sink: &mut S) -> u8
     requires sink { wanted ≢ 7 }
     requires memory { wanted ≢ 1 }
-    ensures ends { Ends line.now wanted record {
-      held = S.contents sink.old;
-      holds = S.contents sink.new;
-      before = S.faults sink.old;
-      now = S.faults sink.new;
-    } result }
+    ensures ends { Ends line.now wanted (sunk S.contents S.faults sink.old sink.new) result }
     ensures remembers { result ≢ 1 }
 {
     match sink.put(line) {
@@ -64,23 +59,13 @@ fn put<S: Sink>(line: &[u8], wanted: u8, sink: &mut S) -> u8
 }
 
 fn refuse_words<S: Sink>(sink: &mut S) -> u8
-    ensures { Ends usage.bytes 2 record {
-      held = S.contents sink.old;
-      holds = S.contents sink.new;
-      before = S.faults sink.old;
-      now = S.faults sink.new;
-    } result }
+    ensures { Ends usage.bytes 2 (sunk S.contents S.faults sink.old sink.new) result }
 {
     put(USAGE, 2, sink)
 }
 
 fn refuse_missing<S: Sink>(alloc: Global, name: &[u8], sink: &mut S) -> u8
-    ensures { Ends (missing_of name.now).bytes 5 record {
-      held = S.contents sink.old;
-      holds = S.contents sink.new;
-      before = S.faults sink.old;
-      now = S.faults sink.new;
-    } result }
+    ensures { Ends (missing_of name.now).bytes 5 (sunk S.contents S.faults sink.old sink.new) result }
 {
     match missing(alloc, name) {
         Ok(line) => put(line.as_slice(), 5, sink),
@@ -89,12 +74,7 @@ fn refuse_missing<S: Sink>(alloc: Global, name: &[u8], sink: &mut S) -> u8
 }
 
 fn refuse_unread<S: Sink>(alloc: Global, name: &[u8], sink: &mut S) -> u8
-    ensures line { Ends (cannot_read_line name.now) 6 record {
-      held = S.contents sink.old;
-      holds = S.contents sink.new;
-      before = S.faults sink.old;
-      now = S.faults sink.new;
-    } result }
+    ensures line { Ends (cannot_read_line name.now) 6 (sunk S.contents S.faults sink.old sink.new) result }
     ensures nothing { result ≡ 1 → S.contents sink.new ≡ S.contents sink.old }
 {
     match cannot_read(alloc, name) {
@@ -103,15 +83,10 @@ fn refuse_unread<S: Sink>(alloc: Global, name: &[u8], sink: &mut S) -> u8
     }
 }
 
-fn replay<S: Sink>(alloc: Global, entries: u64, script: &[u8], sink: &mut S) -> u8
+fn play_script<S: Sink>(alloc: Global, entries: u64, script: &[u8], sink: &mut S) -> u8
     requires some { 1 ≤ entries }
     requires few { entries ≤ MOST_ENTRIES }
-    ensures { let output = replayed (played_of (limits_of entries) script.now) in Ends output.bytes output.status record {
-      held = S.contents sink.old;
-      holds = S.contents sink.new;
-      before = S.faults sink.old;
-      now = S.faults sink.new;
-    } result }
+    ensures { let output = replayed (played_of (limits_of entries) script.now) in Ends output.bytes output.status (sunk S.contents S.faults sink.old sink.new) result }
 {
     let limits = Limits {
         entries,
@@ -131,25 +106,21 @@ pub fn run_offline<L: Library, S: Sink>(
     sink: &mut S,
 ) -> u8
     ensures { Answers record {
-      replay = replay_of_words (map string_bytes words.now);
+      words = map string_bytes words.now;
       files = L.files library.old;
       library_before = L.faults library.old;
       library_now = L.faults library.new;
-      sink = record {
-        held = S.contents sink.old;
-        holds = S.contents sink.new;
-        before = S.faults sink.old;
-        now = S.faults sink.new;
-      };
+      failed_name = L.failed_name library.new;
+      sink = sunk S.contents S.faults sink.old sink.new;
     } result }
 {
-    let Some(asked) = replay_of(words) else {
+    let Some(replay) = replay_of(words) else {
         return refuse_words(sink);
     };
-    match library.text(alloc, asked.script) {
-        Ok(Some(script)) => replay(alloc, asked.entries, script.as_slice(), sink),
-        Ok(None) => refuse_missing(alloc, asked.script, sink),
-        Err(LibraryFault::Failed) => refuse_unread(alloc, asked.script, sink),
+    match library.text(alloc, replay.script()) {
+        Ok(Some(script)) => play_script(alloc, replay.entries(), script.as_slice(), sink),
+        Ok(None) => refuse_missing(alloc, replay.script(), sink),
+        Err(LibraryFault::Failed) => refuse_unread(alloc, replay.script(), sink),
         Err(LibraryFault::Memory) => 1,
     }
 }

@@ -4,31 +4,40 @@ use qm_link::{Sink, SinkFailed};
 use std::alloc::Global;
 use std::io::{ErrorKind, Read, Write};
 use std::rt::Files;
-use std::{fs, io, str};
+use std::{fs, str};
 
 const MOST_BYTES: usize = 67_108_864;
 
 /// Why a file was not read.
-enum ReadFault {
+pub enum ReadFault {
+    /// There is none.
     Missing,
+    /// Opening or reading it failed, or it is too long.
     Failed,
+    /// No memory was left.
     Memory,
 }
 
-fn read_whole<F: Read>(alloc: Global, file: &mut F) -> Result<Text, ReadFault> {
+impl From<NoMemory> for ReadFault {
+    fn from(_fault: NoMemory) -> ReadFault {
+        ReadFault::Memory
+    }
+}
+
+/// All bytes of a reader, 67,108,864 at most. An interrupted read is tried again.
+pub fn read_whole<F: Read>(alloc: Global, file: &mut F) -> Result<Text, ReadFault> {
     let mut text = Text::new(alloc);
     let mut buffer = [0u8; 8192];
     for _ in 0..u64::MAX {
         let count = match file.read(&mut buffer) {
             Ok(count) => count,
+            Err(fault) if fault.kind() == ErrorKind::Interrupted => continue,
             Err(_) => return Err(ReadFault::Failed),
         };
         if count == 0 {
             return Ok(text);
         }
-        if text.extend(&buffer[..count]).is_err() {
-            return Err(ReadFault::Memory);
-        }
+        text.extend(&buffer[..count])?;
         if text.len() > MOST_BYTES {
             return Err(ReadFault::Failed);
         }
@@ -85,33 +94,30 @@ impl<R: Files> Library for FileLibrary<'_, R> {
             Ok(text) => Ok(Some(text)),
             Err(ReadFault::Missing) => Ok(None),
             Err(ReadFault::Memory) => Err(LibraryFault::Memory),
-            Err(ReadFault::Failed) => match Text::of(alloc, name) {
-                Ok(name) => {
-                    self.failed_name = name;
-                    self.faults = self.faults.saturating_add(1);
-                    Err(LibraryFault::Failed)
-                }
-                Err(NoMemory) => Err(LibraryFault::Memory),
-            },
+            Err(ReadFault::Failed) => {
+                self.failed_name = Text::of(alloc, name)?;
+                self.faults = self.faults.saturating_add(1);
+                Err(LibraryFault::Failed)
+            }
         }
     }
 }
 
-/// Standard output. It tells no bytes.
+/// A writer, as standard output. It tells no bytes.
 #[derive(Drop)]
-pub struct OutSink<'a, R> {
-    rt: &'a R,
+pub struct OutSink<W> {
+    writer: W,
     faults: u64,
 }
 
-impl<'a, R> OutSink<'a, R> {
+impl<W> OutSink<W> {
     /// A sink of which no call has failed.
-    pub fn new(rt: &'a R) -> OutSink<'a, R> {
-        OutSink { rt, faults: 0 }
+    pub fn new(writer: W) -> OutSink<W> {
+        OutSink { writer, faults: 0 }
     }
 }
 
-impl<R: Print> Sink for OutSink<'_, R> {
+impl<W: Write> Sink for OutSink<W> {
     ghost use Rattle.std.specs.Prelude.{None};
 
     ghost contents = { λ _. None };
@@ -119,7 +125,7 @@ impl<R: Print> Sink for OutSink<'_, R> {
     ghost faults = { λ s. s.faults };
 
     fn put(&mut self, piece: &[u8]) -> Result<(), SinkFailed> {
-        match io::writer(self.rt).write_all(piece) {
+        match self.writer.write_all(piece) {
             Ok(()) => Ok(()),
             Err(_) => {
                 self.faults = self.faults.saturating_add(1);

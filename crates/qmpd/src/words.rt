@@ -1,17 +1,47 @@
-ghost use Rattle.std.specs.Prelude.{◌≡◌, ◌≤◌, map, string_bytes, IfSome, option_map};
+ghost use Rattle.std.specs.Prelude.{◌≡◌, ◌≤◌, map, string_bytes};
 ghost use Rattle.qm_core.specs.declared.TheConstants.{MOST_ENTRIES};
-ghost use Rattle.qmpd.specs.Words.{entries_of as entries_of_word, is_positional as is_positional_of, journal_option as journal_option_of, replay_named as replay_named_of, replay_of as replay_of_words, replay_words as replay_words_of, script_alone as script_alone_of, script_and_journal as script_and_journal_of};
+ghost use Rattle.qmpd.specs.Words.{count_of, is_positional as is_positional_of, journal_option as journal_option_of, replay_bounded as replay_bounded_of, replay_named as replay_named_of, replay_of as replay_of_words, replay_words as replay_words_of, without_zeros as without_zeros_of};
 
 use qm_base::number;
 use qm_core::MOST_ENTRIES;
+use std::marker::Model;
 
-/// A script to be replayed.
-#[derive(Clone, Copy)]
-pub struct Asked<'a> {
+/// A script to be replayed, and how many entries and open sessions its journal may have together,
+/// 1 to 1,000,000.
+#[derive(Drop)]
+pub struct Replay<'a> {
+    script: &'a [u8],
+    entries: u64,
+}
+
+impl<'a> Model for Replay<'a> {
+    ghost use Rattle.std.specs.Prelude.{◌≤◌};
+    ghost use Rattle.qm_core.specs.declared.TheConstants.{MOST_ENTRIES};
+    ghost use Rattle.qmpd.specs.Words.{Replay as Asked};
+
+    ghost Value = { Asked };
+
+    ghost view = { λ r. record { script = r.script.now; entries = r.entries } };
+
+    ghost invariant = { λ r. (1 ≤ r.entries) × (r.entries ≤ MOST_ENTRIES) };
+}
+
+impl<'a> Replay<'a> {
     /// The name of the script.
-    pub script: &'a [u8],
+    pub fn script(&self) -> &'a [u8]
+        ensures { result.now ≡ self.now.script }
+    {
+        self.script
+    }
+
     /// How many entries and open sessions the journal may have together.
-    pub entries: u64,
+    pub fn entries(&self) -> u64
+        ensures value { result ≡ self.now.entries }
+        ensures some { 1 ≤ result }
+        ensures few { result ≤ MOST_ENTRIES }
+    {
+        self.entries
+    }
 }
 
 fn is_positional(word: &[u8]) -> bool
@@ -20,105 +50,80 @@ fn is_positional(word: &[u8]) -> bool
     word.len() > 0 && word[0] != b'-'
 }
 
-fn entries(word: &[u8]) -> Option<u64>
-    ensures value { result ≡ entries_of_word word.now }
-    ensures within { IfSome result (λ n. (1 ≤ n) × (n ≤ MOST_ENTRIES)) }
+fn without_zeros(word: &[u8]) -> &[u8]
+    ensures { result.now ≡ without_zeros_of word.now }
 {
-    match number(word) {
-        Some(n) if n >= 1 && n <= MOST_ENTRIES => Some(n),
-        _ => None,
+    let mut rest = word;
+    while let [b'0', later @ ..] = rest {
+        if later.is_empty() {
+            return rest;
+        }
+        rest = later;
     }
+    rest
+}
+
+fn count(word: &[u8]) -> Option<u64>
+    ensures { result ≡ count_of word.now }
+{
+    if word.len() > 7 {
+        return None;
+    }
+    number(without_zeros(word))
 }
 
 fn journal_option(option: &[u8], number: &[u8]) -> Option<u64>
-    ensures value { result ≡ journal_option_of option.now number.now }
-    ensures within { IfSome result (λ n. (1 ≤ n) × (n ≤ MOST_ENTRIES)) }
+    ensures { result ≡ journal_option_of option.now number.now }
 {
     if option == b"--journal".as_slice() {
-        entries(number)
+        count(number)
     } else {
         None
     }
 }
 
-fn replay_named<'a>(name: &'a [u8], entries: Option<u64>) -> Option<Asked<'a>>
-    requires { IfSome entries (λ n. (1 ≤ n) × (n ≤ MOST_ENTRIES)) }
-    ensures value { option_map (λ a. record { script = a.script.now; entries = a.entries }) result
-        ≡ replay_named_of name.now entries }
-    ensures within { IfSome result (λ a. (1 ≤ a.entries) × (a.entries ≤ MOST_ENTRIES)) }
+fn replay_named(name: &[u8], entries: u64) -> Option<Replay<'_>>
+    ensures { result ≡ replay_named_of name.now entries }
 {
-    if !is_positional(name) {
-        return None;
-    }
-    match entries {
-        Some(entries) => Some(Asked {
+    if is_positional(name) && entries >= 1 && entries <= MOST_ENTRIES {
+        Some(Replay {
             script: name,
             entries,
-        }),
-        None => None,
+        })
+    } else {
+        None
     }
 }
 
-fn script_alone(words: &[String]) -> Option<Asked<'_>>
-    ensures value { option_map (λ a. record { script = a.script.now; entries = a.entries }) result
-        ≡ script_alone_of (map string_bytes words.now) }
-    ensures within { IfSome result (λ a. (1 ≤ a.entries) × (a.entries ≤ MOST_ENTRIES)) }
+fn replay_bounded<'a>(option: &[u8], number: &[u8], name: &'a [u8]) -> Option<Replay<'a>>
+    ensures { result ≡ replay_bounded_of option.now number.now name.now }
 {
-    match words {
-        [name] => replay_named(name.as_bytes(), Some(MOST_ENTRIES)),
-        _ => None,
-    }
+    replay_named(name, journal_option(option, number)?)
 }
 
-#[tactic(auto, using(crate::proofs::WordLemmas::not_three))]
-fn script_and_journal(words: &[String]) -> Option<Asked<'_>>
-    ensures value { option_map (λ a. record { script = a.script.now; entries = a.entries }) result
-        ≡ script_and_journal_of (map string_bytes words.now) }
-    ensures within { IfSome result (λ a. (1 ≤ a.entries) × (a.entries ≤ MOST_ENTRIES)) }
+#[tactic(auto, using(crate::proofs::WordLemmas::not_one_or_three))]
+fn replay_words(words: &[String]) -> Option<Replay<'_>>
+    ensures { result ≡ replay_words_of (map string_bytes words.now) }
 {
-    if words.len() != 3 {
+    if words.len() != 1 && words.len() != 3 {
         return None;
     }
     match words {
+        [name] => replay_named(name.as_bytes(), MOST_ENTRIES),
         [a, b, c] => {
-            let before = journal_option(a.as_bytes(), b.as_bytes());
-            match replay_named(c.as_bytes(), before) {
-                Some(asked) => Some(asked),
-                None => {
-                    let after = journal_option(b.as_bytes(), c.as_bytes());
-                    replay_named(a.as_bytes(), after)
-                }
-            }
+            let (a, b, c) = (a.as_bytes(), b.as_bytes(), c.as_bytes());
+            replay_bounded(a, b, c).or(replay_bounded(b, c, a))
         }
         _ => None,
-    }
-}
-
-fn replay_words(words: &[String]) -> Option<Asked<'_>>
-    ensures value { option_map (λ a. record { script = a.script.now; entries = a.entries }) result
-        ≡ replay_words_of (map string_bytes words.now) }
-    ensures within { IfSome result (λ a. (1 ≤ a.entries) × (a.entries ≤ MOST_ENTRIES)) }
-{
-    match script_alone(words) {
-        Some(asked) => Some(asked),
-        None => script_and_journal(words),
     }
 }
 
 /// What the words ask to replay; None where they are outside the grammar.
-pub fn replay_of(words: &[String]) -> Option<Asked<'_>>
-    ensures value { option_map (λ a. record { script = a.script.now; entries = a.entries }) result
-        ≡ replay_of_words (map string_bytes words.now) }
-    ensures within { IfSome result (λ a. (1 ≤ a.entries) × (a.entries ≤ MOST_ENTRIES)) }
+pub fn replay_of(words: &[String]) -> Option<Replay<'_>>
+    ensures { result ≡ replay_of_words (map string_bytes words.now) }
 {
     match words {
-        [verb, rest @ ..] => {
-            if verb.as_bytes() == b"replay".as_slice() {
-                replay_words(rest)
-            } else {
-                None
-            }
-        }
+        [verb, rest @ ..] if verb.as_bytes() == b"replay".as_slice() => replay_words(rest),
         _ => None,
     }
 }

@@ -16,7 +16,7 @@ use crate::lines::line;
 use crate::monitor::Monitor;
 use crate::offers::{Offer, Owners};
 use crate::replies;
-use crate::requests::{Admitted, Request, Started};
+use crate::requests::{Admitted, Request, RequestName, Started};
 use qm_base::{NoMemory, Shared, Text};
 use qm_caps::{Lane, bound};
 use qm_json::Json;
@@ -49,7 +49,7 @@ fn answer_to(alloc: Global, request: &Request) -> Result<Answer, NoMemory>
 /// A request to be started, and the bytes of its entry.
 #[derive(Clone, Copy)]
 struct Starting {
-    started: Started,
+    name: RequestName,
     bytes: u64,
 }
 
@@ -128,9 +128,9 @@ impl Monitor {
         ensures fault { result_err result ≡ refusal_in self.now Start }
         ensures idle { OnOk result (running_of (past_of self.now.journal) ≡ None) }
         ensures turn { let past = past_of self.now.journal in
-            IfOk result (λ starting. named_of (starting_of past) ≡ Some starting.started) }
+            IfOk result (λ starting. named_of (starting_of past) ≡ Some starting.name) }
         ensures bytes { IfOk result (λ starting. starting.bytes ≡ length (entry_text_of
-            (length self.now.journal + 1) (start_entry (Some starting.started)))) }
+            (length self.now.journal + 1) (start_entry (Some starting.name)))) }
         ensures room { IfOk result (λ starting.
             HasPlace self.now starting.bytes (open_count_of (past_of self.now.journal))) }
     {
@@ -140,12 +140,12 @@ impl Monitor {
         let Some(request) = &self.session.waiting else {
             return Err(StepFault::Nothing);
         };
-        let started = Started {
+        let name = RequestName {
             session: request.session,
             number: request.number,
         };
-        let bytes = self.start_room(started.session, started.number)?;
-        Ok(Starting { started, bytes })
+        let bytes = self.start_room(name.session, name.number)?;
+        Ok(Starting { name, bytes })
     }
 
     /// Starts the least waiting request of the session whose turn it is. It takes no memory.
@@ -155,18 +155,14 @@ impl Monitor {
     pub fn start(&mut self) -> Result<Started, StepFault>
         ensures next { Next self.old Start (result_err result) self.new }
         ensures value { let past = past_of self.old.journal in
-            IfOk result (λ started. named_of (starting_of past) ≡ Some started) }
+            IfOk result (λ started. named_of (starting_of past)
+            ≡ Some record { session = started.session; number = started.number }) }
     {
-        let Starting { started, bytes } = self.may_start()?;
+        let Starting { name, bytes } = self.may_start()?;
+        let RequestName { session, number } = name;
         self.running = self.session.waiting.take();
-        self.journal.put(
-            Entry::Start {
-                session: started.session,
-                number: started.number,
-            },
-            bytes,
-        );
-        Ok(started)
+        self.journal.put(Entry::Start { session, number }, bytes);
+        Ok(Started { session, number })
     }
 
     fn may_finish(&self, session: u32, number: u64) -> Result<&Request, StepFault>

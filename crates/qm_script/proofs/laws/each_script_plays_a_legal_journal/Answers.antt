@@ -1,13 +1,11 @@
 use Rattle.qm_core.specs.Legal.{past_of}
 use Rattle.qm_core.proofs.Transcripts.{taken_first}
-use Rattle.qm_script.specs.Laws.{journal_of}
-use Rattle.qm_script.specs.Lines.{lines_of}
-use Rattle.qm_script.specs.Playing.{nothing_played}
-use Rattle.qm_script.proofs.LegalPlays.{played_legal}
+use Rattle.qm_script.specs.Playing.{journal_of}
+use Rattle.qm_script.proofs.LegalPlays.{script_legal}
 use Rattle.qm_script.proofs.laws.each_script_plays_a_legal_journal.Goals as goal
 
 pub returns-clause-legal : goal.returns-clause-legal
-returns-clause-legal c = λ limits script. played_legal limits 1 nothing_played (lines_of script) tt
+returns-clause-legal c = λ limits script. script_legal limits script
 
 pub returns-clause-begins : goal.returns-clause-begins
-returns-clause-begins c = λ limits s script. taken_first s (past_of (journal_of limits script)) (played_legal limits 1 nothing_played (lines_of script) tt)
+returns-clause-begins c = λ limits s script. taken_first s (past_of (journal_of limits script)) (script_legal limits script)
