@@ -21,18 +21,11 @@ use Rattle.qapi_load.specs.declared.fault.LoadFault.{LoadFault}
 use Rattle.qapi_load.specs.declared.fault.LoadRule.{LoadRule}
 use Rattle.qapi_load.specs.declared.fault.LoadRule.TheVariants as rule
 use Rattle.qapi_load.specs.declared.fault.TheConstants.{MOST_FILES}
+use Rattle.qapi_load.specs.declared.reading.Place.{Place}
+use Rattle.qapi_load.specs.declared.reading.Need.{Need}
+use Rattle.qapi_load.specs.declared.reading.Need.TheVariants as need
+use Rattle.qapi_load.specs.declared.reading.Reading.{Reading}
 use Rattle.qapi_load.specs.declared.source.Source.{Source}
-
--- what was read so far, the files whose reading was begun, and those that were read whole
-pub record Reading : Type 0 where
-  pub sources : List Source
-  pub begun : List (List ℕ)
-  pub finished : List (List ℕ)
-
--- where a file is included: the including file and the line there
-pub record Place : Type 0 where
-  pub file : List ℕ
-  pub line : ℕ
 
 abbrev pub on : {A B : Type 0} → Result A LoadFault → (A → Result B LoadFault) → Result B LoadFault
 on (Ok x) next = next x
@@ -62,12 +55,6 @@ folder_of (x ∷ rest) = if list_any (λ byte. byte == 47) (x ∷ rest) then x �
 abbrev pub full_name : List ℕ → List ℕ → List ℕ
 full_name file name = folder_of file ++ name
 
--- what an expression is to loading
-pub data Sort : Type 0 where
-  Include : List ℕ → Sort
-  Pragma : Sort
-  Definition : Sort
-
 -- the bytes of a string
 abbrev pub string_layer : Tree-F (Option (List ℕ)) (Unit {0}) → Option (List ℕ)
 string_layer (layer.Tree-F.Str text) = Some text
@@ -80,13 +67,12 @@ string_of = fold-Tree (Option (List ℕ)) (Unit {0}) string_layer (λ _. tt)
 abbrev pub string_at : List ℕ → List TreeMember → Option (List ℕ)
 string_at key members = option_and_then (λ m. string_of m.tree) (find (λ m. bytes_eq m.key key) members)
 
-abbrev pub sort_among : Option (List ℕ) → Bool → Sort
-sort_among (Some name) pragma = Include name
-sort_among None true = Pragma
-sort_among None false = Definition
+-- what an expression includes, if it is an include
+abbrev pub included_by : Expr → Option (List ℕ)
+included_by expr = string_at (codes "include") expr.keys
 
-abbrev pub sort_of : Expr → Sort
-sort_of expr = sort_among (string_at (codes "include") expr.keys) (has_key expr.keys (codes "pragma"))
+abbrev pub is_pragma : Expr → Bool
+is_pragma expr = has_key expr.keys (codes "pragma")
 
 -- the line of a fault of tokens
 abbrev pub line_of : LexFault → ℕ
@@ -117,53 +103,50 @@ begin r name = record r { begun = r.begun ++ name ∷ [] }
 abbrev pub finish : Reading → List ℕ → Reading
 finish r name = record r { finished = r.finished ++ name ∷ [] }
 
--- an expression of a file, where `include` loads what it includes
-abbrev pub expression_read : (Reading → Place → List ℕ → Result Reading LoadFault) → List ℕ → Reading → ℕ → Expr → Sort → Result Reading LoadFault
-expression_read include file r line expr (Include name) = include r (record { file = file; line = line }) (full_name file name)
-expression_read include file r line expr Pragma = Ok r
-expression_read include file r line expr Definition = Ok (with_source r file expr)
-
--- expressions of a file in their order
-abbrev pub expressions_read : (Reading → Place → List ℕ → Result Reading LoadFault) → List ℕ → Reading → List Expr → Result Reading LoadFault
-expressions_read include file r [] = Ok r
-expressions_read include file r (e ∷ es) =
-    on (expression_read include file r e.line e (sort_of e)) (λ next. expressions_read include file next es)
-
--- what is done about a file: it was read whole, it is still being read, it is one too many, or it is to be read
-pub data Need : Type 0 where
-  Nothing : Need
-  Refused : LoadRule → Need
-  Reads : Need
-
 abbrev pub is_named : List (List ℕ) → List ℕ → Bool
 is_named names name = list_any (bytes_eq name) names
 
+-- a file that was read whole is passed over; one that is still being read, or that is one too many, is refused
 abbrev pub need_of : Reading → List ℕ → Need
 need_of r name =
-    if is_named r.finished name then Nothing
-    else if is_named r.begun name then Refused rule.IncludeCycle
-    else if nat_le MOST_FILES (length r.begun) then Refused rule.TooManyFiles
-    else Reads
+    if is_named r.finished name then need.Nothing
+    else if is_named r.begun name then need.Cycle
+    else if nat_le MOST_FILES (length r.begun) then need.TooMany
+    else need.Wanted
 
-abbrev pub as_needed : Need → Reading → Place → List ℕ → Result Reading LoadFault → Result Reading LoadFault
-as_needed Nothing r place name read = Ok r
-as_needed (Refused broken) r place name read = Err (include_fault broken place name)
-as_needed Reads r place name read = read
+-- the reading after an include, where `read` reads a file that is wanted
+abbrev pub after_include : (Reading → Place → List ℕ → Result Reading LoadFault) → Reading → Place → List ℕ → Need → Result Reading LoadFault
+after_include read r place name need.Nothing = Ok r
+after_include read r place name need.Cycle = Err (include_fault rule.IncludeCycle place name)
+after_include read r place name need.TooMany = Err (include_fault rule.TooManyFiles place name)
+after_include read r place name need.Wanted = read r place name
 
--- a file that is included at a place, and all that it includes, where files nest at most so deep
-abbrev pub file_read : ℕ → List NamedText → Reading → Place → List ℕ → Result Reading LoadFault
-file_read zero told r place name = as_needed (need_of r name) r place name (Ok r)
-file_read (suc n) told r place name =
-    as_needed (need_of r name) r place name
-        (on (parsed place name (text_of name told)) (λ exprs.
-        on (expressions_read (file_read n told) name (begin r name) exprs) (λ next. Ok (finish next name))))
+-- the reading after an expression of a file
+abbrev pub after_expression : (Reading → Place → List ℕ → Result Reading LoadFault) → List ℕ → Reading → Expr → Option (List ℕ) → Bool → Result Reading LoadFault
+after_expression read file r e (Some name) pragma =
+    after_include read r (record { file = file; line = e.line }) (full_name file name) (need_of r (full_name file name))
+after_expression read file r e None true = Ok r
+after_expression read file r e None false = Ok (with_source r file e)
+
+-- the reading after expressions of a file, in their order
+abbrev pub after_expressions : (Reading → Place → List ℕ → Result Reading LoadFault) → List ℕ → Reading → List Expr → Result Reading LoadFault
+after_expressions read file r [] = Ok r
+after_expressions read file r (e ∷ es) =
+    on (after_expression read file r e (included_by e) (is_pragma e)) (λ next. after_expressions read file next es)
+
+-- the reading after a file that is included at a place, and all that it includes, where files nest at most so deep
+unfoldable pub after_file : ℕ → List NamedText → Reading → Place → List ℕ → Result Reading LoadFault
+after_file zero told r place name = Ok r
+after_file (suc n) told r place name =
+    on (parsed place name (text_of name told)) (λ exprs.
+    on (after_expressions (after_file n told) name (begin r name) exprs) (λ next. Ok (finish next name)))
 
 abbrev pub nothing_read : Reading
 nothing_read = record { sources = []; begun = []; finished = [] }
 
 -- the expressions of a schema's main file and of all that it includes, in reading order, includes and
--- pragmas left out; or the first fault. Files that are being read at one time are begun files, so that
--- they nest at most as deep as there may be files
+-- pragmas left out; or the first fault. Files that are read at one time are files that were begun: they
+-- nest no deeper than there may be files
 unfoldable pub sources_of : List NamedText → List ℕ → Result (List Source) LoadFault
 sources_of told main =
-    on (file_read MOST_FILES told nothing_read (record { file = main; line = 0 }) main) (λ r. Ok r.sources)
+    on (after_file MOST_FILES told nothing_read (record { file = main; line = 0 }) main) (λ r. Ok r.sources)

@@ -3,11 +3,17 @@
 #![tactic(auto)]
 
 pub mod fault;
+mod includes;
 pub mod library;
+mod loading;
 pub mod memory;
+mod open_file;
+mod parsing;
+mod reading;
 pub mod source;
 
 pub use fault::{LoadFault, LoadRule};
 pub use library::{Library, LibraryFault};
+pub use loading::load_files;
 pub use memory::{FileList, LibraryFile, MemoryLibrary};
-pub use source::Source;
+pub use source::{Source, SourceList};

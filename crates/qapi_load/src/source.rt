@@ -1,5 +1,5 @@
 use qapi_tree::Expr;
-use qm_base::Text;
+use qm_base::{GrowingList, Text};
 
 /// An expression of a schema, and the name of its file.
 #[derive(Debug, Drop)]
@@ -9,3 +9,6 @@ pub struct Source {
     /// The expression.
     pub expr: Expr,
 }
+
+/// Expressions in reading order.
+pub type SourceList = GrowingList<Source>;

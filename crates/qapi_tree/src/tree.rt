@@ -84,6 +84,13 @@ impl TreeList {
         self.exprs.as_slice()
     }
 
+    /// The expressions as a vector. It takes no memory.
+    pub fn into_vec(self) -> Vec<Expr>
+        ensures { result.items ≡ self }
+    {
+        self.exprs
+    }
+
     /// Appends an expression. An error leaves the list as it was.
     pub fn push(&mut self, expr: Expr) -> Result<(), NoMemory>
         ensures ok { OnOk result (self.new ≡ self.old ++ expr ∷ []) }
