@@ -66,14 +66,6 @@ abbrev pub after_comma : List Open → Expect
 after_comma (opens.Dict members key line ∷ outer) = Key
 after_comma _ = Value
 
-abbrev pub list_is_open : Open → Bool
-list_is_open (opens.List items) = true
-list_is_open _ = false
-
-abbrev pub object_is_open : Open → Bool
-object_is_open (opens.Dict members key line) = true
-object_is_open _ = false
-
 -- a value goes into what is innermost
 abbrev pub put : Tree → List Open → State
 put v [] = record { stack = []; expect = Object }

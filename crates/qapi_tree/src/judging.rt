@@ -8,8 +8,7 @@ ghost use Rattle.qapi_tree.specs.Shapes.{key_in, is_needed, rule_for as rule_of_
 ghost use Rattle.qapi_tree.specs.Table.{name};
 
 use crate::fault::{TreeFault, TreeRule};
-use crate::parser::has_key;
-use crate::shapes::{is_of_shape, rule_for};
+use crate::shapes::{has_key, is_of_shape, rule_for};
 use crate::table::{Form, KeyRule, all_kinds, keys_of, name_of};
 use crate::tree::{Expr, TreeMember};
 use qm_base::{NoMemory, Text};

@@ -3,6 +3,7 @@
 
 pub mod fault;
 mod judging;
+mod named_members;
 mod parser;
 mod parsing;
 mod release;

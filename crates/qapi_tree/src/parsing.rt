@@ -24,12 +24,9 @@ fn objects(alloc: Global, tokens: &TokenList) -> Result<TreeList, TreeFault>
     let mut line = 0;
     for token in tokens.as_slice() {
         line = token.line;
-        match parser.push(token) {
-            Ok(()) => {}
-            Err(fault) => {
-                parser.release();
-                return Err(fault);
-            }
+        if let Err(fault) = parser.push(token) {
+            parser.release();
+            return Err(fault);
         }
     }
     parser.finish(line)
@@ -52,12 +49,10 @@ fn objects(alloc: Global, tokens: &TokenList) -> Result<TreeList, TreeFault>
 pub fn parse(alloc: Global, tokens: &TokenList) -> Result<TreeList, TreeFault>
     ensures { result ≢ Err memory_fault → result ≡ expressions_of tokens.now }
 {
-    match objects(alloc, tokens) {
-        Ok(exprs) => match first_fault(alloc, exprs.as_slice()) {
-            Some(fault) => Err(fault),
-            None => Ok(exprs),
-        },
-        Err(fault) => Err(fault),
+    let exprs = objects(alloc, tokens)?;
+    match first_fault(alloc, exprs.as_slice()) {
+        Some(fault) => Err(fault),
+        None => Ok(exprs),
     }
 }
 

@@ -6,7 +6,6 @@ ghost use Rattle.qapi_tree.specs.Asking.{are_shaped, items_have, values_have, ha
 ghost use Rattle.qapi_tree.specs.Keys.{has_key as has_key_of};
 ghost use Rattle.qapi_tree.specs.Table.{name};
 
-use crate::parser::has_key;
 use crate::table::{
     DictRule, Form, Key, KeyRule, ListRule, ScalarRule, Shape, keys_of, name_of, rule_of,
 };
@@ -27,8 +26,7 @@ impl KeyRule {
         ensures { result ≡ key_in self }
     {
         match self {
-            KeyRule::Needed(key, _) => key,
-            KeyRule::Optional(key, _) => key,
+            KeyRule::Needed(key, _) | KeyRule::Optional(key, _) => key,
         }
     }
 
@@ -37,8 +35,7 @@ impl KeyRule {
         ensures { result ≡ shape_in self }
     {
         match self {
-            KeyRule::Needed(_, shape) => shape,
-            KeyRule::Optional(_, shape) => shape,
+            KeyRule::Needed(_, shape) | KeyRule::Optional(_, shape) => shape,
         }
     }
 
@@ -46,11 +43,15 @@ impl KeyRule {
     pub fn is_needed(self) -> bool
         ensures { result ≡ needed self }
     {
-        match self {
-            KeyRule::Needed(_, _) => true,
-            KeyRule::Optional(_, _) => false,
-        }
+        matches!(self, KeyRule::Needed(_, _))
     }
+}
+
+/// Whether a member has the key.
+pub fn has_key(members: &[TreeMember], key: &[u8]) -> bool
+    ensures { result ≡ has_key_of members.now key.now }
+{
+    members.iter().any(|member| member.key.as_slice() == key)
 }
 
 fn is_rule_for(rule: &KeyRule, key: &[u8]) -> bool
@@ -69,19 +70,13 @@ pub fn rule_for(form: Form, key: &[u8]) -> Option<&'static KeyRule>
 fn takes_text(rule: ScalarRule) -> bool
     ensures { result ≡ text_taken rule }
 {
-    match rule {
-        ScalarRule::Text => true,
-        ScalarRule::Flag | ScalarRule::Never => false,
-    }
+    matches!(rule, ScalarRule::Text)
 }
 
 fn takes_flag(rule: ScalarRule) -> bool
     ensures { result ≡ flag_taken rule }
 {
-    match rule {
-        ScalarRule::Flag => true,
-        ScalarRule::Text | ScalarRule::Never => false,
-    }
+    matches!(rule, ScalarRule::Flag)
 }
 
 #[tactic(auto, using(crate::proofs::CountLaws::pushed))]
@@ -90,14 +85,12 @@ fn ask<'a>(pending: &mut Vec<Wanted<'a>>, tree: &'a Tree, shape: Shape) -> Resul
         ≡ (has_shape tree.now shape && are_shaped pending.old.items)) }
     ensures left { OnOk result (left_in pending.new.items ≡ left_in pending.old.items + count_of tree.now) }
 {
-    match pending.push(Wanted { tree, shape }) {
-        Ok(()) => Ok(()),
-        Err(_) => Err(NoMemory),
-    }
+    pending.push(Wanted { tree, shape })?;
+    Ok(())
 }
 
 /// Asks for a shape of each item.
-#[tactic(auto, using(crate::proofs::CountLaws::item_next))]
+#[tactic(auto, using(crate::proofs::CountLaws::count_next))]
 fn ask_items<'a>(
     pending: &mut Vec<Wanted<'a>>,
     items: &'a [Tree],
@@ -114,7 +107,7 @@ fn ask_items<'a>(
 }
 
 /// Asks for a shape of each value.
-#[tactic(auto, using(crate::proofs::CountLaws::value_next))]
+#[tactic(auto, using(crate::proofs::CountLaws::count_next))]
 fn ask_values<'a>(
     pending: &mut Vec<Wanted<'a>>,
     members: &'a [TreeMember],

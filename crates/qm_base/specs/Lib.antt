@@ -2,6 +2,7 @@ pub mod Bytes
 pub mod Calls
 pub mod Faults
 pub mod Histories
+pub mod Names
 pub mod Numerals
 pub mod Prefixes
 pub mod Reserving

@@ -1,7 +1,7 @@
 use Rattle.std.proofs.Common.{sym, ◌∙◌}
-use Rattle.qm_read.proofs.NameLemmas.{added, of_ok, on_ok}
-use Rattle.qm_read.proofs.names.NameTable.add.Goals as goal
-use Rattle.qm_read.proofs.names.NameTable.add.Goals.{then-is_ok, else-is_ok}
+use Rattle.qm_base.proofs.NameLemmas.{added, of_ok, on_ok}
+use Rattle.qm_base.proofs.names.NameTable.add.Goals as goal
+use Rattle.qm_base.proofs.names.NameTable.add.Goals.{then-is_ok, else-is_ok}
 
 pub returns : goal.returns
 returns c = on_ok c.if-is_ok.result (λ ok. elim c.if-is_ok.branch [

@@ -1,12 +1,12 @@
 ghost use Rattle.std.specs.Prelude.{◌≡◌, [], OnOk};
-ghost use Rattle.qm_read.specs.Names.{is_named, AddsName};
+ghost use Rattle.qm_base.specs.Names.{is_named, AddsName};
 
-use qm_base::NoMemory;
+use crate::text::NoMemory;
 use std::alloc::Global;
 use std::collections::BTreeSet;
 use std::marker::Model;
 
-/// A table of names.
+/// A table of names, in their order, so that no choice of names makes it slow.
 #[derive(Drop)]
 pub struct NameTable {
     names: BTreeSet<Vec<u8>>,
@@ -37,7 +37,7 @@ impl NameTable {
         self.names.contains(name)
     }
 
-    /// Adds a name.
+    /// Adds a name. It takes memory for a copy.
     pub fn add(&mut self, alloc: Global, name: &[u8]) -> Result<(), NoMemory>
         ensures { OnOk result (AddsName self.old name.now self.new) }
     {

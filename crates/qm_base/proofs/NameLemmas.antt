@@ -1,5 +1,5 @@
 -- Tables of names.
-use Rattle.std.proofs.Common.{◌≡◌, ℕ, Bool, true, false, ◌||◌, List, [], ◌∷◌, ◌++◌, map, Some, Result, Ok, Err, IfOk, OnOk, refl, ap, sym, ◌∙◌}
+use Rattle.std.proofs.Common.{◌≡◌, ℕ, Bool, true, false, ◌||◌, List, [], ◌∷◌, ◌++◌, map, Result, Ok, Err, IfOk, OnOk, refl, ap, sym, ◌∙◌}
 use Rattle.std.specs.Bool.{one_answer}
 use Rattle.std.specs.BTreeSet.{insert_key}
 use Rattle.std.specs.Cmp.Lexicographic.{slice_cmp}
@@ -8,29 +8,17 @@ use Rattle.std.specs.declared.cmp.Ordering.{Ordering}
 use Rattle.std.specs.declared.cmp.Ordering.TheVariants.{Less, Equal, Greater}
 use Rattle.std.proofs.lemmas.Map.Text.{is_eq-slice_cmp}
 use Rattle.std.specs.List.{list_any}
-use Rattle.std.specs.Prelude.{if◌then◌else◌}
 use Rattle.std.specs.Result.{is_ok}
 use Rattle.std.specs.Str.{bytes_eq}
 use Rattle.std.proofs.lemmas.Slice.Eq.{bytes_eq-Decides}
 use Rattle.std.proofs.lemmas.List.Folds.{list_any-append}
-use Rattle.qm_json.specs.declared.value.Member.{Member}
-use Rattle.qm_json.specs.Members.{has_name}
-use Rattle.qm_read.specs.Names.{is_named, AddsName, AreNamesOf}
-
-pub list_any-map : {X Y : Type 0} (f : X → Y) (p : Y → Bool) (xs : List X) → list_any p (map f xs) ≡ list_any (λ x. p (f x)) xs
-list_any-map f p [] = refl
-list_any-map f p (x ∷ xs) = ap (λ b. p (f x) || b) (list_any-map f p xs)
+use Rattle.qm_base.specs.Names.{is_named, AddsName, AreNamesOf}
 
 same-bytes : (a b : List ℕ) → bytes_eq a b ≡ true → a ≡ b
 same-bytes a b e = (bytes_eq-Decides a b).0 e
 
 bytes_eq-sym : (a b : List ℕ) → bytes_eq a b ≡ bytes_eq b a
 bytes_eq-sym a b = one_answer (bytes_eq a b) (bytes_eq b a) (bytes_eq-Decides a b) (λ e. sym ((bytes_eq-Decides b a).0 e), λ e. (bytes_eq-Decides b a).1 (sym e))
-
-either : (b c : Bool) → (c ≡ true → b ≡ true) → b ≡ (b || c)
-either true c h = refl
-either false true h = h refl
-either false false h = refl
 
 last_of : (b c : Bool) → (b || (c || false)) ≡ (b || c)
 last_of true c = refl
@@ -68,7 +56,7 @@ module _ {K : Type 0} (f : K → List ℕ) where
   placed other Equal k x xs more same rest = same_or (bytes_eq other (f k)) (bytes_eq other (f x)) (is_named (map f xs) other) (ap (bytes_eq other) (same refl))
   placed other Greater k x xs more same rest = last_or (bytes_eq other (f k)) (bytes_eq other (f x)) (is_named (map f xs) other) (is_named (map f more) other) rest
 
-  inserted : (other : List ℕ) (ks : List K) (k : K) → is_named (map f (insert_key order ks k)) other ≡ (is_named (map f ks) other || bytes_eq other (f k))
+  pub inserted : (other : List ℕ) (ks : List K) (k : K) → is_named (map f (insert_key order ks k)) other ≡ (is_named (map f ks) other || bytes_eq other (f k))
   inserted other [] k = first_or (bytes_eq other (f k)) false false
   inserted other (x ∷ xs) k = placed other (order k x) k x xs (insert_key order xs k) (λ e. same-bytes (f k) (f x) (sym (is_eq-slice_cmp (f k) (f x)) ∙ ap is_eq e)) (inserted other xs k)
 
@@ -85,10 +73,10 @@ pub on_ok : {P E : Type 0} (r : Result (Unit {0}) E) → (r ≡ Ok tt → P) →
 on_ok (Ok tt) h = h refl
 on_ok (Err y) h = tt
 
--- a table of the members' names, and the name of one more
-pub names_more : (old new : List (List ℕ)) (members : List Member) (m : Member) → AreNamesOf (Some old) members → AddsName old m.name new → AreNamesOf (Some new) (members ++ m ∷ [])
-names_more old new members m are adds = λ other.
+-- a table of the names of items, and the name of one more
+pub names_more : {A : Type 0} (name_of : A → List ℕ) (old new : List (List ℕ)) (items : List A) (x : A) → AreNamesOf name_of old items → AddsName old (name_of x) new → AreNamesOf name_of new (items ++ x ∷ [])
+names_more name_of old new items x are adds = λ other.
     adds other
-    ∙ ap (λ b. b || bytes_eq other m.name) (are other)
-    ∙ ap (λ b. has_name members other || b) (bytes_eq-sym other m.name)
-    ∙ sym (list_any-append (λ n. bytes_eq n.name other) members (m ∷ []) ∙ last_of (has_name members other) (bytes_eq m.name other))
+    ∙ ap (λ b. b || bytes_eq other (name_of x)) (are other)
+    ∙ ap (λ b. list_any (λ y. bytes_eq (name_of y) other) items || b) (bytes_eq-sym other (name_of x))
+    ∙ sym (list_any-append (λ y. bytes_eq (name_of y) other) items (x ∷ []) ∙ last_of (list_any (λ y. bytes_eq (name_of y) other) items) (bytes_eq (name_of x) other))
