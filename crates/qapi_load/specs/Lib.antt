@@ -1,2 +1,4 @@
 pub mod Files
+pub mod Loading
 pub mod MemoryLibraries
+pub mod Steps

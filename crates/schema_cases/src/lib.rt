@@ -1,8 +1,10 @@
-//! Cases of schemas' texts, over public calls alone.
+//! Cases of schemas' texts and files, over public calls alone.
 #![tactic(auto)]
 
 #[cfg(test)]
 mod lexing;
+#[cfg(test)]
+mod loading;
 #[cfg(test)]
 mod nesting;
 #[cfg(test)]

@@ -1,0 +1,128 @@
+-- How the files of a schema are read one after another. This serves private functions.
+use Rattle.std.specs.Prelude.{◌≡◌, ◌≢◌, ◌<◌, ◌≤◌, ◌+◌, ◌-◌, ℕ, List, [], ◌∷◌, length, Option, Some, None, Result, Ok, Err}
+use Rattle.std.specs.Vec.Iter.{into_iter_items}
+use Rattle.qapi_tree.specs.declared.tree.Expr.{Expr}
+use Rattle.qm_base.specs.Faults.{Rose}
+use Rattle.qapi_load.specs.Files.{NamedText}
+use Rattle.qapi_load.specs.declared.fault.LoadFault.{LoadFault}
+use Rattle.qapi_load.specs.declared.fault.TheConstants.{MOST_FILES}
+use Rattle.qapi_load.specs.declared.fault.LoadRule.TheVariants.{ReadFault}
+use Rattle.qapi_load.specs.declared.loading.Loading.{Loading}
+use Rattle.qapi_load.specs.declared.loading.Move.{Move}
+use Rattle.qapi_load.specs.declared.loading.Move.TheVariants.{Done, On, Ask}
+use Rattle.qapi_load.specs.declared.loading.Progress.{Progress}
+use Rattle.qapi_load.specs.declared.loading.Progress.TheVariants as goes
+use Rattle.qapi_load.specs.declared.open_file.OpenFile.{OpenFile}
+use Rattle.qapi_load.specs.declared.open_file.Turn.{Turn}
+use Rattle.qapi_load.specs.declared.open_file.Turn.TheVariants.{Over, Stop}
+use Rattle.qapi_load.specs.declared.open_file.Wanted.{Wanted}
+use Rattle.qapi_load.specs.declared.reading.Place.{Place}
+use Rattle.qapi_load.specs.declared.reading.Reading.{Reading}
+use Rattle.qapi_load.specs.declared.source.Source.{Source}
+use Rattle.qapi_load.specs.Loading.{on, after_expressions, after_file, finish, memory_fault, read_fault}
+
+-- how a file that is wanted is read
+abbrev pub Read : Type 0
+Read = Reading → Place → List ℕ → Result Reading LoadFault
+
+-- the expressions of a file that are still to be read
+abbrev pub left_in : OpenFile → List Expr
+left_in file = into_iter_items file.rest
+
+-- the reading after an expression, where an include is still to be followed, if it is one
+abbrev pub taken : Read → Turn → Reading → Result Reading LoadFault
+taken read Over r = Ok r
+taken read (Stop w) r = read r w.place w.name
+
+-- a file that is to be read is not one too many
+abbrev pub HasRoom : Turn → Reading → Type 0
+HasRoom Over r = Unit {0}
+HasRoom (Stop w) r = length r.begun < MOST_FILES
+
+-- no file was begun or read whole
+pub record SameFiles (old new : Reading) : Type 0 where
+  pub begun : new.begun ≡ old.begun
+  pub finished : new.finished ≡ old.finished
+
+-- the reading after a file's expressions, where an include is still to be followed, if there is one
+abbrev pub goes_on : Read → Option Wanted → OpenFile → Reading → Result Reading LoadFault
+goes_on read None file r = Ok r
+goes_on read (Some w) file r =
+    on (read r w.place w.name) (λ next. after_expressions read file.name next (left_in file))
+
+-- the reading after the rest of a file, and after what was read before
+abbrev pub closed : ℕ → List NamedText → OpenFile → Result Reading LoadFault → Result Reading LoadFault
+closed n told file before =
+    on before (λ r. on (after_expressions (after_file n told) file.name r (left_in file)) (λ next. Ok (finish next file.name)))
+
+-- the reading after the rest of files that are open, the outermost first
+abbrev pub all_closed : ℕ → List NamedText → List OpenFile → Result Reading LoadFault → Result Reading LoadFault
+all_closed n told [] before = before
+all_closed n told (file ∷ inner) before = closed n told file (all_closed (n - 1) told inner before)
+
+-- how deep files may nest below the file that is being read
+abbrev pub depth_left : Loading → ℕ
+depth_left l = MOST_FILES - 1 - length l.outer.items
+
+-- the sources after all files that are open
+abbrev pub sources_after : List NamedText → Loading → Result Reading LoadFault → Result (List Source) LoadFault
+sources_after told l before =
+    on (all_closed (MOST_FILES - 1) told l.outer.items (closed (depth_left l) told l.file before)) (λ r. Ok r.sources)
+
+-- what a reading comes to
+abbrev pub outcome_of : List NamedText → Loading → Result (List Source) LoadFault
+outcome_of told l = sources_after told l (Ok l.reading)
+
+-- what a reading comes to where a file is to be read next
+abbrev pub outcome_with : List NamedText → Loading → Wanted → Result (List Source) LoadFault
+outcome_with told l w = sources_after told l (after_file (depth_left l) told l.reading w.place w.name)
+
+-- what a reading comes to, if it goes on
+abbrev pub outcome_on : List NamedText → Result Loading LoadFault → Result (List Source) LoadFault
+outcome_on told (Ok l) = outcome_of told l
+outcome_on told (Err fault) = Err fault
+
+abbrev pub outcome_moved : List NamedText → Move → Result (List Source) LoadFault
+outcome_moved told (Done sources) = Ok sources
+outcome_moved told (On l) = outcome_of told l
+outcome_moved told (Ask l w) = outcome_with told l w
+
+abbrev pub outcome_after : List NamedText → Result Progress LoadFault → Result (List Source) LoadFault
+outcome_after told (Ok (goes.On l)) = outcome_of told l
+outcome_after told (Ok (goes.Done sources)) = Ok sources
+outcome_after told (Err fault) = Err fault
+
+-- the files that are open, and those that were read whole, are those that were begun
+pub record Sound (l : Loading) : Type 0 where
+  pub begun : length l.reading.finished + length l.outer.items + 1 ≡ length l.reading.begun
+  pub within : length l.reading.begun ≤ MOST_FILES
+
+-- what a reading has become is sound, and further on than it was; a file that is to be read is not one too many
+abbrev pub IsFurther : ℕ → Move → Type 0
+IsFurther before (Done sources) = Unit {0}
+IsFurther before (On l) = Sound l × (before < length l.reading.begun + length l.reading.finished)
+IsFurther before (Ask l w) = Sound l × (before ≤ length l.reading.begun + length l.reading.finished) × (length l.reading.begun < MOST_FILES)
+
+abbrev pub GoesFurther : ℕ → Progress → Type 0
+GoesFurther before (goes.On l) = Sound l × (before < length l.reading.begun + length l.reading.finished)
+GoesFurther before (goes.Done sources) = Unit {0}
+
+-- an answer that no want of memory and no failed read took the place of
+abbrev pub IsAnswer : {A : Type 0} → Result A LoadFault → Type 0
+IsAnswer (Ok x) = Unit {0}
+IsAnswer (Err fault) = (fault ≢ memory_fault) × (fault.rule ≢ ReadFault)
+
+-- a file's name and its expressions, or the fault
+abbrev pub Fetches : Result (List ℕ × List Expr) LoadFault → List ℕ → Result (List Expr) LoadFault → Type 0
+Fetches (Ok found) name right = (found.0 ≡ name) × (right ≡ Ok found.1)
+Fetches (Err fault) name right = right ≡ Err fault
+
+-- reading fails exactly where the count of faults rises, and the fault names what could not be read
+pub record IsCaused (fault : LoadFault) (before now : ℕ) (failed : List ℕ) : Type 0 where
+  pub rose : fault.rule ≡ ReadFault → Rose before now
+  pub named : fault.rule ≡ ReadFault → fault ≡ read_fault failed
+  pub kept : fault.rule ≢ ReadFault → now ≡ before
+
+abbrev pub HasCause : {A : Type 0} → Result A LoadFault → ℕ → ℕ → List ℕ → Type 0
+HasCause (Ok x) before now failed = now ≡ before
+HasCause (Err fault) before now failed = IsCaused fault before now failed
