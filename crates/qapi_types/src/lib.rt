@@ -1,0 +1,12 @@
+//! The table of a schema: its types, commands and events by their numbers (QAPI code generation
+//! guide, "Schema syntax").
+#![tactic(auto)]
+
+pub mod kind;
+pub mod parts;
+
+pub use kind::{
+    Branch, BranchList, Kind, KindList, MemberDef, MemberList, Names, ObjectDef, TypeList,
+    ValueDef, ValueList, Whole,
+};
+pub use parts::{ArgType, CommandDef, CommandList, EventDef, EventList, Parts};
