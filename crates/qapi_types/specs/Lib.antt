@@ -1,0 +1,4 @@
+pub mod Chains
+pub mod Choices
+pub mod Goodness
+pub mod Types

@@ -1,3 +1,6 @@
+ghost use Rattle.std.specs.Prelude.{◌≡◌};
+ghost use Rattle.qapi_types.specs.Types.{json_kind_of, members_of, branches_of, values_of, tag_position};
+
 use qm_base::{GrowingList, Text};
 
 /// Texts in order, as features are.
@@ -111,4 +114,82 @@ pub enum Kind {
     Object(ObjectDef),
     /// What is of one of the types of these numbers; and the features of the definition.
     Alternate(TypeList, Names),
+}
+
+/// The kinds of JSON values (RFC 8259, section 3).
+#[derive(Clone, Copy, Debug, PartialEq, Eq)]
+pub enum JsonKind {
+    /// The literal null.
+    Null,
+    /// The literals true and false.
+    Boolean,
+    /// Numbers.
+    Number,
+    /// Strings.
+    String,
+    /// Arrays.
+    Array,
+    /// Objects.
+    Object,
+}
+
+impl Kind {
+    /// The kind of JSON values that are of the type; None for the type of all values and for
+    /// an alternate, whose values are of several kinds.
+    pub fn json_kind(&self) -> Option<JsonKind>
+        ensures { result ≡ json_kind_of self.now }
+    {
+        match self {
+            Kind::Str => Some(JsonKind::String),
+            Kind::Number => Some(JsonKind::Number),
+            Kind::Whole(_) => Some(JsonKind::Number),
+            Kind::Bool => Some(JsonKind::Boolean),
+            Kind::Null => Some(JsonKind::Null),
+            Kind::Any => None,
+            Kind::Enum(_, _) => Some(JsonKind::String),
+            Kind::Array(_) => Some(JsonKind::Array),
+            Kind::Object(_) => Some(JsonKind::Object),
+            Kind::Alternate(_, _) => None,
+        }
+    }
+
+    /// The members of an object type, those of its bases first; none of any other type.
+    pub fn members(&self) -> &[MemberDef]
+        ensures { result.now ≡ members_of self.now }
+    {
+        match self {
+            Kind::Object(def) => def.members.as_slice(),
+            _ => &[],
+        }
+    }
+
+    /// The branches of an object type; none of any other type.
+    pub fn branches(&self) -> &[Branch]
+        ensures { result.now ≡ branches_of self.now }
+    {
+        match self {
+            Kind::Object(def) => def.branches.as_slice(),
+            _ => &[],
+        }
+    }
+
+    /// The values of an enum; none of any other type.
+    pub fn values(&self) -> &[ValueDef]
+        ensures { result.now ≡ values_of self.now }
+    {
+        match self {
+            Kind::Enum(values, _) => values.as_slice(),
+            _ => &[],
+        }
+    }
+
+    /// The position of the tag in the members, where the type is a union.
+    pub fn tag(&self) -> Option<u32>
+        ensures { result ≡ tag_position self.now }
+    {
+        match self {
+            Kind::Object(def) => def.tag,
+            _ => None,
+        }
+    }
 }

@@ -6,7 +6,7 @@ pub mod kind;
 pub mod parts;
 
 pub use kind::{
-    Branch, BranchList, Kind, KindList, MemberDef, MemberList, Names, ObjectDef, TypeList,
+    Branch, BranchList, JsonKind, Kind, KindList, MemberDef, MemberList, Names, ObjectDef, TypeList,
     ValueDef, ValueList, Whole,
 };
 pub use parts::{ArgType, CommandDef, CommandList, EventDef, EventList, Parts};
