@@ -2,9 +2,11 @@
 //! guide, "Schema syntax").
 #![tactic(auto)]
 
+pub mod graph;
 pub mod kind;
 pub mod parts;
 
+pub use graph::{branch_graph, reached, references_of};
 pub use kind::{
     Branch, BranchList, JsonKind, Kind, KindList, MemberDef, MemberList, Names, ObjectDef, TypeList,
     ValueDef, ValueList, Whole,
