@@ -1,4 +1,5 @@
 pub mod Chains
 pub mod Choices
 pub mod Goodness
+pub mod Sets
 pub mod Types

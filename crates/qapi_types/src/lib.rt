@@ -4,6 +4,7 @@
 
 pub mod graph;
 pub mod kind;
+pub mod names;
 pub mod parts;
 
 pub use graph::{branch_graph, reached, references_of};
