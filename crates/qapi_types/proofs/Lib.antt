@@ -1,2 +1,5 @@
 pub mod ChainLaws
+pub mod ChoiceLaws
 pub mod NameLemmas
+pub mod SetLaws
+pub mod FaultLaws

@@ -1,8 +1,8 @@
 -- Names along choices of branches.
-use Rattle.std.specs.Prelude.{◌≡◌, ◌<◌, ◌≤◌, ◌+◌, ◌↔◌, ◌⊎◌, ◌++◌, ◌||◌, ℕ, nat_eq, Bool, true, false, cond, List, length, slice_index_or, [], ◌∷◌, Option, Some, None, is_some}
-use Rattle.std.specs.List.{All, list_any}
+use Rattle.std.specs.Prelude.{◌≡◌, ◌<◌, ◌≤◌, ◌+◌, ◌⊎◌, ◌++◌, ℕ, Bool, true, false, cond, List, length, slice_index_or, [], ◌∷◌, Option, Some, None, is_some}
+use Rattle.std.specs.List.{list_any}
 use Rattle.std.specs.Str.{bytes_eq}
-use Rattle.qapi_types.specs.Chains.{has, row_of, IsInside, Refers, Leads, marked}
+use Rattle.qapi_types.specs.Chains.{IsInside, Refers, Leads}
 
 -- how often a name stands in a list
 abbrev pub times : List ℕ → List (List ℕ) → ℕ
@@ -45,20 +45,6 @@ abbrev pub again : List (List ℕ) → List (List ℕ) → Option (List ℕ)
 again seen [] = None
 again seen (name ∷ names) = cond (stands name seen) (Some name) (again (seen ++ name ∷ []) names)
 
--- after some names, the first name that stands a second time: among a type's own, and then in its branches in
--- order, each with all that it brings
-pub data IsFirstAgain (t : Table) : List (List ℕ) → ℕ → List ℕ → Type 0 where
-  own : {seen : List (List ℕ)} {a : ℕ} {name : List ℕ} → again seen (names_of t.names a) ≡ Some name → IsFirstAgain t seen a name
-  branch : {seen : List (List ℕ)} {a : ℕ} {name : List ℕ} (before after : List ℕ) (b : ℕ) →
-      again seen (names_of t.names a) ≡ None → row_of t.branches a ≡ before ++ b ∷ after →
-      ((c : ℕ) → has c before ≡ true → ClashesAfter t (seen ++ names_of t.names a) c → ⊥) →
-      IsFirstAgain t (seen ++ names_of t.names a) b name → IsFirstAgain t seen a name
-
--- the first name that stands a second time from a type on, or none
-abbrev pub IsClash : Table → ℕ → Option (List ℕ) → Type 0
-IsClash t a None = Clashes t a → ⊥
-IsClash t a (Some name) = IsFirstAgain t [] a name
-
 -- no name stands twice along any choice of branches
 abbrev pub AllApart : Table → Type 0
 AllApart t = (a : ℕ) → a < length t.names → (names : List (List ℕ)) → Along t a names → AreApart names
@@ -67,10 +53,6 @@ AllApart t = (a : ℕ) → a < length t.names → (names : List (List ℕ)) → 
 
 abbrev pub shares : List (List ℕ) → List (List ℕ) → Bool
 shares names others = list_any (λ name. stands name others) names
-
--- the names meet those of a marked type
-abbrev pub MeetsBelow : List (List ℕ) → List (List (List ℕ)) → List Bool → Type 0
-MeetsBelow seen names marks = (b : ℕ) × (marked marks b ≡ true) × (shares seen (names_of names b) ≡ true)
 
 -- one of the type's own names stands twice, or in a type that it leads to
 abbrev pub IsFaulty : Table → ℕ → Type 0
@@ -83,40 +65,3 @@ table_of names branches = record { names = names; branches = branches }
 pub record IsTable (t : Table) : Type 0 where
   pub inside : IsInside t.branches
   pub long : length t.names ≡ length t.branches
-
--- no type before the number is faulty where its mark says not
-pub record MarkFaulty (t : Table) (n : ℕ) (marks : List Bool) : Type 0 where
-  pub long : length marks ≡ n
-  pub faulty : (a : ℕ) → marked marks a ≡ true → IsFaulty t a
-  pub all : (a : ℕ) → a < n → marked marks a ≡ false → IsFaulty t a → ⊥
-
-abbrev pub touches : List Bool → List (List ℕ) → List (List (List ℕ)) → ℕ → Bool
-touches faulty seen names a = marked faulty a || shares seen (names_of names a)
-
-abbrev pub TouchesMarked : List Bool → List (List ℕ) → List (List (List ℕ)) → List Bool → Type 0
-TouchesMarked faulty seen names marks = (b : ℕ) × (marked marks b ≡ true) × (touches faulty seen names b ≡ true)
-
--- the first of some types from which a name stands a second time
-pub record IsClashing (t : Table) (seen : List (List ℕ)) (types : List ℕ) (b : ℕ) : Type 0 where
-  pub before : List ℕ
-  pub after : List ℕ
-  pub split : types ≡ before ++ b ∷ after
-  pub none : (c : ℕ) → has c before ≡ true → ClashesAfter t seen c → ⊥
-  pub clash : ClashesAfter t seen b
-
-abbrev pub IsFirstClashing : Table → List (List ℕ) → List ℕ → Option ℕ → Type 0
-IsFirstClashing t seen types None = (c : ℕ) → has c types ≡ true → ClashesAfter t seen c → ⊥
-IsFirstClashing t seen types (Some b) = IsClashing t seen types b
-
--- the way down to the first name that stands a second time
-pub record IsOnTheWay (t : Table) (from : ℕ) (seen : List (List ℕ)) (a : ℕ) : Type 0 where
-  pub within : a < length t.names
-  pub apart : AreApart seen
-  pub clash : ClashesAfter t seen a
-  pub answers : (name : List ℕ) → IsFirstAgain t seen a name → IsFirstAgain t [] from name
-
-abbrev pub Touches : Table → List (List ℕ) → ℕ → Type 0
-Touches t seen a = IsFaulty t a ⊎ (shares seen (names_of t.names a) ≡ true)
-
-abbrev pub TouchesFrom : Table → List (List ℕ) → ℕ → Type 0
-TouchesFrom t seen a = Touches t seen a ⊎ ((b : ℕ) × Leads t.branches a b × Touches t seen b)

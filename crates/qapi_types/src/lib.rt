@@ -2,11 +2,13 @@
 //! guide, "Schema syntax").
 #![tactic(auto)]
 
+pub mod choices;
 pub mod graph;
 pub mod kind;
 pub mod names;
 pub mod parts;
 
+pub use choices::{TypeFaults, faults_of};
 pub use graph::{branch_graph, reached, references_of};
 pub use kind::{
     Branch, BranchList, JsonKind, Kind, KindList, MemberDef, MemberList, Names, ObjectDef, TypeList,

@@ -1,8 +1,10 @@
-ghost use Rattle.std.specs.Prelude.{◌≡◌, [], IfOk};
+ghost use Rattle.std.specs.Prelude.{◌≡◌, [], map, IfOk};
 ghost use Rattle.qapi_types.specs.Choices.{stands};
-ghost use Rattle.qapi_types.specs.Sets.{AddsName};
+ghost use Rattle.qapi_types.specs.Sets.{AddsName, IsSetOf};
+ghost use Rattle.qapi_types.specs.Types.{member_names, value_names};
 
-use qm_base::NoMemory;
+use crate::kind::Kind;
+use qm_base::{GrowingList, NoMemory};
 use std::alloc::Global;
 use std::collections::BTreeSet;
 use std::marker::Model;
@@ -47,4 +49,48 @@ impl<'a> NameSet<'a> {
             Err(_) => Err(NoMemory),
         }
     }
+}
+
+/// The names, each once; None where two are the same.
+pub fn distinct_names<'a>(
+    alloc: Global,
+    names: &[&'a [u8]],
+) -> Result<Option<NameSet<'a>>, NoMemory>
+    ensures { IfOk result (λ set. IsSetOf (map (λ k. k.now) names.now) set) }
+{
+    let mut set = NameSet::new(alloc);
+    for name in names {
+        if !set.add(*name)? {
+            return Ok(None);
+        }
+    }
+    Ok(Some(set))
+}
+
+/// The names of a type's members.
+pub fn names_of_members<'a>(
+    alloc: Global,
+    kind: &'a Kind,
+) -> Result<GrowingList<&'a [u8]>, NoMemory>
+    ensures { IfOk result (λ names. map (λ k. k.now) names ≡ member_names kind.now) }
+{
+    let mut names = GrowingList::new(alloc);
+    for member in kind.members() {
+        names.push(member.name.as_slice())?;
+    }
+    Ok(names)
+}
+
+/// The names of a type's values.
+pub fn names_of_values<'a>(
+    alloc: Global,
+    kind: &'a Kind,
+) -> Result<GrowingList<&'a [u8]>, NoMemory>
+    ensures { IfOk result (λ names. map (λ k. k.now) names ≡ value_names kind.now) }
+{
+    let mut names = GrowingList::new(alloc);
+    for value in kind.values() {
+        names.push(value.name.as_slice())?;
+    }
+    Ok(names)
 }
