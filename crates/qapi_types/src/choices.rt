@@ -3,10 +3,11 @@ ghost use Rattle.qapi_types.specs.Chains.{IsInside, NoneOnCycle};
 ghost use Rattle.qapi_types.specs.Choices.{AllApart};
 ghost use Rattle.qapi_types.specs.Goodness.{choices_of};
 ghost use Rattle.qapi_types.specs.Sets.{has_member_in, MeetsMarked, ClashesMarked, HasFaults};
-ghost use Rattle.qapi_types.specs.Types.{kind_of, branch_types};
+ghost use Rattle.qapi_types.specs.Types.{branch_types};
 
 use crate::graph::{branch_graph, reached, references_of};
 use crate::kind::{Kind, TypeList};
+use crate::lookups::kind_at;
 use crate::names::{NameSet, distinct_names, names_of_members};
 use qm_base::NoMemory;
 use std::alloc::Global;
@@ -51,14 +52,6 @@ fn clashes_marked(set: &Option<NameSet>, kinds: &[Kind], marks: &[bool]) -> bool
         None => true,
         Some(set) => meets_marked(set, kinds, marks),
     }
-}
-
-/// The type of the number.
-pub fn kind_at(kinds: &[Kind], number: usize) -> &Kind
-    requires { number < length kinds.now }
-    ensures { result.now ≡ kind_of kinds.now number }
-{
-    &kinds[number]
 }
 
 /// What is wrong with a type, where `graph` has the types of each type's branches.

@@ -5,8 +5,10 @@
 pub mod choices;
 pub mod graph;
 pub mod kind;
+pub mod lookups;
 pub mod names;
 pub mod parts;
+pub mod ranges;
 
 pub use choices::{TypeFaults, faults_of};
 pub use graph::{branch_graph, reached, references_of};
