@@ -1,5 +1,7 @@
 pub mod ChainLaws
 pub mod ChoiceLaws
-pub mod NameLemmas
-pub mod SetLaws
+pub mod DealLaws
 pub mod FaultLaws
+pub mod NameLemmas
+pub mod PairLaws
+pub mod SetLaws

@@ -8,7 +8,9 @@ pub mod kind;
 pub mod lookups;
 pub mod names;
 pub mod parts;
+pub mod places;
 pub mod ranges;
+pub mod unions;
 
 pub use choices::{TypeFaults, faults_of};
 pub use graph::{branch_graph, reached, references_of};
