@@ -1,11 +1,11 @@
 -- Sets of names that are gathered one after the other.
-use Rattle.std.proofs.Common.{◌≡◌, ◌≤◌, ◌<◌, ◌+◌, ◌||◌, ℕ, Bool, true, false, not, List, [], ◌∷◌, ◌++◌, map, take, drop, get_or, length, suc, refl, sym, ap, ◌∙◌, subst, inl, inr, arith, bytes_eq}
+use Rattle.std.proofs.Common.{◌≡◌, ◌≤◌, ◌<◌, ◌+◌, ◌||◌, ◌↔◌, ℕ, Bool, true, false, not, IsTrue, Option, Some, None, is_some, List, [], ◌∷◌, ◌++◌, map, take, drop, get_or, length, suc, refl, sym, ap, ◌∙◌, subst, inl, inr, arith, bytes_eq}
 use Rattle.std.specs.List.{list_any}
 use Rattle.std.proofs.Math.Seq.{split_at}
 use Rattle.std.proofs.lemmas.List.{map_more, take_all}
 use Rattle.std.proofs.lemmas.List.Folds.{list_any-append}
-use Rattle.qapi_types.specs.Choices.{AreApart, times, stands, shares}
-use Rattle.qapi_types.specs.Sets.{AddsName, HasNames}
+use Rattle.qapi_types.specs.Choices.{AreApart, times, stands}
+use Rattle.qapi_types.specs.Sets.{AddsName, HasNames, IsSetOf}
 use Rattle.qapi_types.proofs.ChoiceLaws.{itself, one-more, times-append, times-stands}
 
 map-append : {X Y : Type 0} (f : X → Y) (xs ys : List X) → map f (xs ++ ys) ≡ map f xs ++ map f ys
@@ -55,3 +55,8 @@ module _ {K : Type 0} (f : K → List ℕ) where
   -- all names are gathered
   pub gathered_all : (set : List (List ℕ)) (ks : List K) (i : ℕ) → length ks ≤ i → Gathers set (map f (take i ks)) → Gathers set (map f ks)
   gathered_all set ks i l g = subst (λ xs. Gathers set (map f xs)) (take_all i ks l) g
+
+-- a set of the names is there exactly where no name stands twice
+pub is_set : (names : List (List ℕ)) (set : Option (List (List ℕ))) (some : Bool) → IsSetOf names set → some ≡ is_some set → IsTrue some ↔ AreApart names
+is_set names None some s e = ((λ h. cc), (λ all. absurd (s all)))
+is_set names (Some set) some s e = ((λ _. s.0), (λ _. e))

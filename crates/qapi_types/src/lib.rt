@@ -3,6 +3,7 @@
 #![tactic(auto)]
 
 pub mod choices;
+pub mod goodness;
 pub mod graph;
 pub mod kind;
 pub mod lookups;
@@ -13,6 +14,7 @@ pub mod ranges;
 pub mod unions;
 
 pub use choices::{TypeFaults, faults_of};
+pub use goodness::parts_good;
 pub use graph::{branch_graph, reached, references_of};
 pub use kind::{
     Branch, BranchList, JsonKind, Kind, KindList, MemberDef, MemberList, Names, ObjectDef, TypeList,
