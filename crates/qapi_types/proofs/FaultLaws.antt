@@ -21,7 +21,7 @@ shares-same : (xs set names : List (List ℕ)) → HasNames set names → shares
 shares-same [] set names h = refl
 shares-same (x ∷ xs) set names h = rw (h x, shares-same xs set names h) refl
 
-names-at : (table : List Kind) (a : ℕ) → names_of (map member_names table) a ≡ member_names (kind_of table a)
+pub names-at : (table : List Kind) (a : ℕ) → names_of (map member_names table) a ≡ member_names (kind_of table a)
 names-at table a = get_or-map member_names table a kinds.Null
 
 leads-nowhere : (g : List (List ℕ)) (a b : ℕ) → row_of g a ≡ [] → Leads g a b → ⊥

@@ -5,4 +5,6 @@ pub mod FaultLaws
 pub mod GoodLaws
 pub mod NameLemmas
 pub mod PairLaws
+pub mod SealLaws
 pub mod SetLaws
+pub mod TableLaws

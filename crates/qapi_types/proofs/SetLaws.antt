@@ -42,15 +42,18 @@ module _ {K : Type 0} (f : K → List ℕ) where
   pub gathers_more : (set new : List (List ℕ)) (ks : List K) (i : ℕ) (d : K) (is_new : Bool) → i < length ks → Gathers set (map f (take i ks)) → AddsName set (f (get_or ks i d)) is_new new → is_new ≡ true → Gathers new (map f (take (i + 1) ks))
   gathers_more set new ks i d is_new l g a e = subst (Gathers new) (sym (map_more f ks i d l)) (gathered set new (map f (take i ks)) (f (get_or ks i d)) g (subst (λ b. AddsName set (f (get_or ks i d)) b new) e a))
 
-  -- the name that is gathered stands there already
-  pub gathered_twice : (set new : List (List ℕ)) (ks : List K) (i : ℕ) (d : K) (is_new : Bool) → i < length ks → Gathers set (map f (take i ks)) → AddsName set (f (get_or ks i d)) is_new new → is_new ≡ false → AreApart (map f ks) → ⊥
-  gathered_twice set new ks i d is_new l g a e all =
+  -- a name that stands before its place stands twice
+  pub stands_before : (ks : List K) (i : ℕ) (d : K) → i < length ks → stands (f (get_or ks i d)) (map f (take i ks)) ≡ true → AreApart (map f ks) → ⊥
+  stands_before ks i d l s all =
       let x : List ℕ = f (get_or ks i d) in
-      let s : stands x (map f (take i ks)) ≡ true = sym (g.1 x) ∙ old-is (stands x set) (sym e ∙ a.fresh) in
       let k : 1 ≤ times x (map f (take i ks)) = times-stands x (map f (take i ks)) s in
       let m : 1 ≤ times x (x ∷ map f (drop (suc i) ks)) = times-stands x (x ∷ map f (drop (suc i) ks)) (ap (λ b. b || stands x (map f (drop (suc i) ks))) (itself x)) in
       let t : times x (map f ks) ≡ times x (map f (take i ks)) + times x (x ∷ map f (drop (suc i) ks)) = ap (times x) (ap (map f) (split_at ks i d l) ∙ map-append f (take i ks) (get_or ks i d ∷ drop (suc i) ks)) ∙ times-append x (map f (take i ks)) (x ∷ map f (drop (suc i) ks)) in
       absurd (omega (arith, k, m, t, all x))
+
+  -- the name that is gathered stands there already
+  pub gathered_twice : (set new : List (List ℕ)) (ks : List K) (i : ℕ) (d : K) (is_new : Bool) → i < length ks → Gathers set (map f (take i ks)) → AddsName set (f (get_or ks i d)) is_new new → is_new ≡ false → AreApart (map f ks) → ⊥
+  gathered_twice set new ks i d is_new l g a e all = stands_before ks i d l (sym (g.1 (f (get_or ks i d))) ∙ old-is (stands (f (get_or ks i d)) set) (sym e ∙ a.fresh)) all
 
   -- all names are gathered
   pub gathered_all : (set : List (List ℕ)) (ks : List K) (i : ℕ) → length ks ≤ i → Gathers set (map f (take i ks)) → Gathers set (map f ks)

@@ -13,6 +13,7 @@ use Rattle.qapi_types.specs.declared.parts.EventDef.{EventDef}
 use Rattle.qapi_types.specs.declared.parts.Parts.{Parts}
 use Rattle.qapi_types.specs.Chains.{NoneOnCycle}
 use Rattle.qapi_types.specs.Choices.{AreApart, AllApart, Table, table_of}
+use Rattle.qapi_types.specs.Lookups.{command_names, event_names}
 use Rattle.qapi_types.specs.Types.{kind_of, is_object, is_enum, is_array, members_of, branches_of, values_of, member_names, value_names, branch_types, tag_position, tag_member, tag_values, json_kind_of}
 
 -- fewer than 2^32 members or values in the type
@@ -52,7 +53,7 @@ pub record IsInRange (p : Parts) : Type 0 where
 
 -- the names of commands and events, which are all definitions whose names the table keeps
 abbrev pub definition_names : Parts → List (List ℕ)
-definition_names p = map (λ (c : CommandDef). c.name) p.commands ++ map (λ (e : EventDef). e.name) p.events
+definition_names p = command_names p ++ event_names p
 
 abbrev pub HasApartValues : Kind → Type 0
 HasApartValues kind = AreApart (value_names kind)

@@ -1,5 +1,5 @@
 -- Sets of names, as lists whose order says nothing. This serves private functions.
-use Rattle.std.specs.Prelude.{◌≡◌, ◌↔◌, ℕ, Bool, true, not, ◌||◌, ◌&&◌, ◌==◌, nat_lt, IsTrue, IsSome, List, length, slice_index, Option, Some, None}
+use Rattle.std.specs.Prelude.{◌≡◌, ◌<◌, ◌^◌, ◌↔◌, ℕ, Bool, true, not, ◌||◌, ◌&&◌, ◌==◌, nat_lt, IsTrue, IsSome, List, length, slice_index, Option, Some, None}
 use Rattle.std.specs.List.{All, list_any}
 use Rattle.std.specs.Str.{bytes_eq}
 use Rattle.qapi_types.specs.declared.kind.Kind.{Kind}
@@ -7,6 +7,7 @@ use Rattle.qapi_types.specs.declared.kind.MemberDef.{MemberDef}
 use Rattle.qapi_types.specs.declared.choices.TypeFaults.{TypeFaults}
 use Rattle.qapi_types.specs.Chains.{Leads, marked}
 use Rattle.qapi_types.specs.Choices.{Table, AreApart, IsFaulty, stands}
+use Rattle.qapi_types.specs.Lookups.{names_in}
 use Rattle.qapi_types.specs.Types.{kind_of, members_of, json_kind_of}
 
 -- the names are those from before and one more, which was not there where it is new
@@ -48,3 +49,8 @@ IsNewKind table others t = IsSome (json_kind_of (kind_of table t)) × All (λ u.
 -- the number stands at the index of the list
 abbrev pub is_at : ℕ → List ℕ → ℕ → Bool
 is_at n numbers i = nat_lt i (length numbers) && slice_index numbers i == n
+
+-- fewer than 2^32 names, none of which stands twice
+pub record IsNamable (kind : Kind) : Type 0 where
+  pub few : length (names_in kind) < 2 ^ 32
+  pub apart : AreApart (names_in kind)

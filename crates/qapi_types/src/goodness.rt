@@ -5,26 +5,13 @@ ghost use Rattle.qapi_types.specs.Goodness.{HasApartValues, IsGood, definition_n
 
 use crate::choices::choices_are_good;
 use crate::kind::Kind;
-use crate::names::{distinct_names, names_of_values};
-use crate::parts::{CommandDef, EventDef, Parts};
+use crate::names::{distinct_names, names_of_commands, names_of_values};
+use crate::parts::{EventDef, Parts};
 use crate::places::are_placed;
 use crate::ranges::{is_counted, is_in_range};
 use crate::unions::{have_apart_alternatives, have_branches, have_plain_elements, have_tags};
 use qm_base::{GrowingList, NoMemory};
 use std::alloc::Global;
-
-fn names_of_commands<'a>(
-    alloc: Global,
-    commands: &'a [CommandDef],
-) -> Result<GrowingList<&'a [u8]>, NoMemory>
-    ensures { IfOk result (λ names. map (λ k. k.now) names ≡ map (λ c. c.name) commands.now) }
-{
-    let mut names = GrowingList::new(alloc);
-    for command in commands {
-        names.push(command.name.as_slice())?;
-    }
-    Ok(names)
-}
 
 fn add_names_of_events<'a>(
     names: &mut GrowingList<&'a [u8]>,

@@ -11,6 +11,9 @@ pub mod names;
 pub mod parts;
 pub mod places;
 pub mod ranges;
+pub mod schema;
+pub mod sealing;
+pub mod tables;
 pub mod unions;
 
 pub use choices::{TypeFaults, faults_of};
@@ -20,4 +23,5 @@ pub use kind::{
     Branch, BranchList, JsonKind, Kind, KindList, MemberDef, MemberList, Names, ObjectDef, TypeList,
     ValueDef, ValueList, Whole,
 };
+pub use schema::Schema;
 pub use parts::{ArgType, CommandDef, CommandList, EventDef, EventList, Parts};

@@ -4,6 +4,7 @@ ghost use Rattle.qapi_types.specs.Sets.{AddsName, IsSetOf};
 ghost use Rattle.qapi_types.specs.Types.{member_names, value_names};
 
 use crate::kind::Kind;
+use crate::parts::{CommandDef, EventDef};
 use qm_base::{GrowingList, NoMemory};
 use std::alloc::Global;
 use std::collections::BTreeSet;
@@ -91,6 +92,34 @@ pub fn names_of_values<'a>(
     let mut names = GrowingList::new(alloc);
     for value in kind.values() {
         names.push(value.name.as_slice())?;
+    }
+    Ok(names)
+}
+
+/// The names of commands.
+pub fn names_of_commands<'a>(
+    alloc: Global,
+    commands: &'a [CommandDef],
+) -> Result<GrowingList<&'a [u8]>, NoMemory>
+    ensures { IfOk result (λ names. map (λ k. k.now) names ≡ map (λ x. x.name) commands.now) }
+{
+    let mut names = GrowingList::new(alloc);
+    for command in commands {
+        names.push(command.name.as_slice())?;
+    }
+    Ok(names)
+}
+
+/// The names of events.
+pub fn names_of_events<'a>(
+    alloc: Global,
+    events: &'a [EventDef],
+) -> Result<GrowingList<&'a [u8]>, NoMemory>
+    ensures { IfOk result (λ names. map (λ k. k.now) names ≡ map (λ x. x.name) events.now) }
+{
+    let mut names = GrowingList::new(alloc);
+    for event in events {
+        names.push(event.name.as_slice())?;
     }
     Ok(names)
 }
