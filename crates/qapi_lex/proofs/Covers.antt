@@ -9,7 +9,8 @@ use Rattle.qapi_lex.specs.declared.fault.LexFault.TheVariants.{BadByte}
 use Rattle.qapi_lex.specs.declared.spot.Spot.{Spot}
 use Rattle.qapi_lex.specs.declared.token.Token.{Token}
 use Rattle.qapi_lex.specs.declared.token.TokenKind.TheVariants.{Mark, Flag, Str}
-use Rattle.qapi_lex.specs.Pieces.{is_space, is_mark}
+use Rattle.qm_base.specs.Bytes.{is_space}
+use Rattle.qapi_lex.specs.Pieces.{is_mark}
 use Rattle.qapi_lex.specs.Spots.{beginning, after_byte, after_bytes}
 use Rattle.qapi_lex.specs.Splitting.{is_plain, written, word, is_no_line_end, IsLineEnd, before, Cuts, at_end, at_line_end, escape_at_end, no_escape, no_byte, Lexes, nothing, space, comment, mark, flag, string, cut, bad_byte}
 use Rattle.qapi_lex.specs.Strings.{is_printable}

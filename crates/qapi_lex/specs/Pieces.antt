@@ -2,6 +2,7 @@
 -- (QAPI code generation guide, "Schema syntax").
 use Rattle.std.specs.Prelude.{ℕ, ◌==◌, nat_eq, Bool, true, false, cond, ◌||◌, List, ◌∷◌, length, codes, Option, Some, None, Result, Ok, Err}
 use Rattle.std.specs.List.{position, starts_with}
+use Rattle.qm_base.specs.Bytes.{is_space}
 use Rattle.qapi_lex.specs.declared.fault.LexFault.{LexFault}
 use Rattle.qapi_lex.specs.declared.fault.LexFault.TheVariants.{BadByte}
 use Rattle.qapi_lex.specs.declared.piece.Piece.{Piece}
@@ -9,10 +10,6 @@ use Rattle.qapi_lex.specs.declared.piece.Piece.TheVariants.{Blank, Whole}
 use Rattle.qapi_lex.specs.declared.quoted.Quoted.{Quoted}
 use Rattle.qapi_lex.specs.declared.token.TokenKind.TheVariants.{Mark, Flag, Str}
 use Rattle.qapi_lex.specs.Strings.{quoted}
-
--- space, tab, CR and LF
-abbrev pub is_space : ℕ → Bool
-is_space x = x == 32 || x == 9 || x == 13 || x == 10
 
 -- `{ } [ ] : ,`
 abbrev pub is_mark : ℕ → Bool

@@ -8,7 +8,8 @@ use Rattle.qapi_lex.specs.declared.spot.Spot.{Spot}
 use Rattle.qapi_lex.specs.declared.token.Token.{Token}
 use Rattle.qapi_lex.specs.declared.token.TokenKind.{TokenKind}
 use Rattle.qapi_lex.specs.declared.token.TokenKind.TheVariants.{Mark, Flag, Str}
-use Rattle.qapi_lex.specs.Pieces.{is_space, is_mark}
+use Rattle.qm_base.specs.Bytes.{is_space}
+use Rattle.qapi_lex.specs.Pieces.{is_mark}
 use Rattle.qapi_lex.specs.Spots.{after_byte, after_bytes}
 use Rattle.qapi_lex.specs.Strings.{is_printable}
 use Rattle.qapi_lex.specs.Tokens.{followed_by}

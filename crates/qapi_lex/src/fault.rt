@@ -1,3 +1,6 @@
+ghost use Rattle.std.specs.Prelude.{◌≡◌};
+
+use qm_base::NoMemory;
 use thiserror::Error;
 
 /// Why a text has no tokens, with the line of the fault, counted from 1 as far as 32 bits count.
@@ -15,4 +18,14 @@ pub enum LexFault {
     /// No memory was left.
     #[error("no memory is left")]
     Memory,
+}
+
+impl From<NoMemory> for LexFault {
+    ghost use Rattle.qapi_lex.specs.declared.fault.LexFault.TheVariants.{Memory};
+
+    ghost from_gives = { λ _ fault. fault ≡ Memory };
+
+    fn from(_error: NoMemory) -> LexFault {
+        LexFault::Memory
+    }
 }

@@ -50,19 +50,12 @@ pub fn lex(alloc: Global, text: &[u8]) -> Result<TokenList, LexFault>
     let mut i = 0;
     while i < text.len() {
         let rest = from(text, i);
-        match first_piece(alloc, spot.line, rest) {
-            Ok(piece) => {
-                let length = piece.more() + 1;
-                let next = spot.past_all(&rest[..length]);
-                match keep(&mut tokens, piece, spot) {
-                    Ok(()) => {}
-                    Err(NoMemory) => return Err(LexFault::Memory),
-                }
-                spot = next;
-                i += length;
-            }
-            Err(fault) => return Err(fault),
-        }
+        let piece = first_piece(alloc, spot.line, rest)?;
+        let length = piece.more() + 1;
+        let next = spot.past_all(&rest[..length]);
+        keep(&mut tokens, piece, spot)?;
+        spot = next;
+        i += length;
     }
     Ok(tokens)
 }

@@ -11,6 +11,3 @@ pub mod token;
 pub use fault::LexFault;
 pub use lexing::{each_text_splits, lex, memory_is_no_fault};
 pub use token::{Token, TokenKind, TokenList};
-
-#[cfg(test)]
-mod tests;

@@ -1,10 +1,11 @@
 ghost use Rattle.std.specs.Prelude.{◌≡◌, ◌≢◌, ◌<◌, ◌≤◌, length, drop, slice_index, ◌==◌, IfOk, IfSome, Ok, Err};
 ghost use Rattle.std.specs.List.{position};
-ghost use Rattle.qapi_lex.specs.Pieces.{is_space as space, is_mark as mark, comment_length as length_of_comment, more_in, piece};
+ghost use Rattle.qapi_lex.specs.Pieces.{is_mark as mark, comment_length as length_of_comment, more_in, piece};
 
 use crate::LexFault;
 use crate::quoted::{Quoted, string};
 use crate::token::TokenKind;
+use qm_base::is_space;
 use std::alloc::Global;
 
 /// What stands at the front of a text, with how many bytes it has after the first.
@@ -16,16 +17,10 @@ pub enum Piece {
     Whole(TokenKind, usize),
 }
 
-fn is_space(byte: u8) -> bool
-    ensures { result ≡ space byte }
-{
-    byte == b' ' || byte == b'\t' || byte == b'\r' || byte == b'\n'
-}
-
 fn is_mark(byte: u8) -> bool
     ensures { result ≡ mark byte }
 {
-    byte == b'{' || byte == b'}' || byte == b'[' || byte == b']' || byte == b':' || byte == b','
+    matches!(byte, b'{' | b'}' | b'[' | b']' | b':' | b',')
 }
 
 fn line_end(bytes: &[u8]) -> Option<usize>
@@ -65,10 +60,8 @@ pub fn first_piece(alloc: Global, line: u32, bytes: &[u8]) -> Result<Piece, LexF
     } else if bytes.starts_with(b"false") {
         Ok(Piece::Whole(TokenKind::Flag(false), 4))
     } else if first == b'\'' {
-        match string(alloc, line, &bytes[1..]) {
-            Ok(Quoted { text, length }) => Ok(Piece::Whole(TokenKind::Str(text), length)),
-            Err(fault) => Err(fault),
-        }
+        let Quoted { text, length } = string(alloc, line, &bytes[1..])?;
+        Ok(Piece::Whole(TokenKind::Str(text), length))
     } else {
         Err(LexFault::BadByte(line))
     }

@@ -2,7 +2,7 @@ ghost use Rattle.std.specs.Prelude.{◌≡◌, ◌≢◌, ◌≤◌, length, fal
 ghost use Rattle.qapi_lex.specs.Strings.{is_printable as printable, role_of, cut_of, quoted};
 
 use crate::LexFault;
-use qm_base::{NoMemory, Text};
+use qm_base::Text;
 use std::alloc::Global;
 
 /// What a string stands for, and how many bytes it has after its opening quote.
@@ -76,10 +76,7 @@ pub fn string(alloc: Global, line: u32, bytes: &[u8]) -> Result<Quoted, LexFault
         match role_at(line, escaped, *byte) {
             Role::Part => {
                 escaped = false;
-                match text.push(*byte) {
-                    Ok(()) => {}
-                    Err(NoMemory) => return Err(LexFault::Memory),
-                }
+                text.push(*byte)?;
             }
             Role::Escape => escaped = true,
             Role::Close => {

@@ -1,8 +1,4 @@
-ghost use Rattle.std.specs.Prelude.{◌≡◌, [], ◌∷◌, ◌++◌, OnOk, OnErr};
-
-use qm_base::{NoMemory, Text};
-use std::alloc::Global;
-use std::marker::Model;
+use qm_base::{GrowingList, Text};
 
 /// What a token is (QAPI code generation guide, "Schema syntax").
 #[derive(Debug, Drop)]
@@ -27,45 +23,4 @@ pub struct Token {
 }
 
 /// Tokens in the order of the text.
-#[derive(Debug, Drop)]
-pub struct TokenList {
-    tokens: Vec<Token>,
-}
-
-impl Model for TokenList {
-    ghost use Rattle.std.specs.Prelude.{List};
-    ghost use Rattle.qapi_lex.specs.declared.token.Token.{Token};
-
-    ghost Value = { List Token };
-
-    ghost view = { λ t. t.tokens.items };
-}
-
-impl TokenList {
-    /// No tokens. It takes no memory.
-    pub fn new(alloc: Global) -> TokenList
-        ensures { result ≡ [] }
-    {
-        TokenList {
-            tokens: Vec::new(alloc),
-        }
-    }
-
-    /// The tokens.
-    pub fn as_slice(&self) -> &[Token]
-        ensures { result.now ≡ self.now }
-    {
-        self.tokens.as_slice()
-    }
-
-    /// Appends a token. An error leaves the list as it was.
-    pub fn push(&mut self, token: Token) -> Result<(), NoMemory>
-        ensures ok { OnOk result (self.new ≡ self.old ++ token ∷ []) }
-        ensures err { OnErr result (self.new ≡ self.old) }
-    {
-        match self.tokens.push(token) {
-            Ok(()) => Ok(()),
-            Err(_) => Err(NoMemory),
-        }
-    }
-}
+pub type TokenList = GrowingList<Token>;

@@ -12,9 +12,8 @@ use Rattle.qapi_tree.specs.declared.tree.Tree.{Tree}
 use Rattle.qapi_tree.specs.declared.tree.Tree.TheVariants as trees
 use Rattle.qapi_tree.specs.declared.tree.Expr.{Expr}
 use Rattle.qapi_tree.specs.declared.tree.TreeMember.{TreeMember}
-use Rattle.qapi_tree.specs.Keys.{has_key}
 use Rattle.qapi_tree.specs.Reading.{on, run, whole, last_line, objects_of}
-use Rattle.qapi_tree.specs.Spelling.{at, SpellsTree, flag, string, no_items, list, dict, SpellsObject, no_members, object, SpellsItems, item, more_items, SpellsMembers, member, more_members, SpellsRow, nothing, more}
+use Rattle.qapi_tree.specs.Spelling.{has_key, at, SpellsTree, flag, string, no_items, list, dict, SpellsObject, no_members, object, SpellsItems, item, more_items, SpellsMembers, member, more_members, SpellsRow, nothing, more}
 use Rattle.qapi_tree.specs.Stacks.{State, begun, takes_value, takes_object, takes_key, given, given_object, put, put_object}
 
 abbrev going : List Open → Expect → State

@@ -15,9 +15,8 @@ use Rattle.qapi_tree.specs.declared.tree.Tree.TheVariants as trees
 use Rattle.qapi_tree.specs.declared.tree.Expr.{Expr}
 use Rattle.qapi_tree.specs.declared.tree.TreeMember.{TreeMember}
 use Rattle.qapi_tree.specs.Faults.{syntax_fault}
-use Rattle.qapi_tree.specs.Keys.{has_key}
 use Rattle.qapi_tree.specs.Reading.{on, run, whole, last_line, objects_of}
-use Rattle.qapi_tree.specs.Spelling.{at, SpellsTree, flag, string, no_items, list, dict, SpellsObject, no_members, object, SpellsItems, item, more_items, SpellsMembers, member, more_members, SpellsRow, nothing, more}
+use Rattle.qapi_tree.specs.Spelling.{has_key, at, SpellsTree, flag, string, no_items, list, dict, SpellsObject, no_members, object, SpellsItems, item, more_items, SpellsMembers, member, more_members, SpellsRow, nothing, more}
 use Rattle.qapi_tree.specs.Stacks.{State, begun, ends_list, ends_object, put, put_object}
 use Rattle.qapi_tree.specs.Steps.{open_list, open_object, close_list, close_object, colon_step, comma_step, mark_step, kind_step, step}
 

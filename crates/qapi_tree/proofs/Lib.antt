@@ -1,8 +1,10 @@
 pub mod Accepts
 pub mod Begins
+pub mod CountLaws
 pub mod FaultLaws
 pub mod FormLaws
-pub mod Fresh
 pub mod Holds
+pub mod NoMemoryFault
+pub mod Refusals
 pub mod Results
 pub mod ShapeLaws

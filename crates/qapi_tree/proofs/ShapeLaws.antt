@@ -19,9 +19,9 @@ use Rattle.qapi_tree.specs.declared.tree.Tree.TheVariants.{rolls-Flag, rolls-Str
 use Rattle.qapi_tree.specs.declared.tree.Tree.TheOpen as layer
 use Rattle.qapi_tree.specs.declared.tree.Tree.TheFolds.{fold-TreeMember, fold-roll-Tree, fold-roll-TreeMember}
 use Rattle.qapi_tree.specs.declared.tree.TreeMember.{TreeMember}
-use Rattle.qapi_tree.specs.Asking.{Asks, values_have, has_needed_keys, member_fits, members_fit, list_fits, dict_fits}
-use Rattle.qapi_tree.specs.Keys.{has_key}
-use Rattle.qapi_tree.specs.Shapes.{key_in, is_needed, KeyAndShapes, fits_key, has_needed, takes_text, takes_flag, takes_list, takes_dict, shape_layer, member_layer, has_shape}
+use Rattle.qapi_tree.specs.Asking.{Asks, values_have, member_fits, members_fit, list_fits, dict_fits}
+use Rattle.qapi_tree.specs.Spelling.{has_key}
+use Rattle.qapi_tree.specs.Shapes.{key_in, is_needed, KeyAndShapes, rule_for, fits_rule, takes_text, takes_flag, takes_list, takes_dict, shape_layer, member_layer, has_shape}
 use Rattle.qapi_tree.specs.Table.{name, keys, rule_of}
 
 pub shape-Flag : (b : Bool) (s : Shape) → has_shape (trees.Flag b) s ≡ takes_flag (rule_of s).scalar
@@ -30,7 +30,7 @@ shape-Flag b s = ap (λ (f : Shape → Bool). f s) (ap has_shape (sym (rolls-Fla
 pub shape-Str : (text : List ℕ) (s : Shape) → has_shape (trees.Str text) s ≡ takes_text (rule_of s).scalar
 shape-Str text s = ap (λ (f : Shape → Bool). f s) (ap has_shape (sym (rolls-Str text)) ∙ fold-roll-Tree (Shape → Bool) KeyAndShapes shape_layer member_layer (layer.Tree-F.Str text))
 
-list-laid : (r : ListRule) (items : List Tree) → takes_list r (map has_shape items) ≡ list_fits r items
+list-laid : (r : ListRule) (items : List Tree) → takes_list (λ (has : Shape → Bool). has) r (map has_shape items) ≡ list_fits r items
 list-laid list.Never items = refl
 list-laid (list.One shape) items = rw (length-map items has_shape, list_all-map (λ (has : Shape → Bool). has shape) has_shape items) refl
 list-laid (list.Each shape) items = list_all-map (λ (has : Shape → Bool). has shape) has_shape items
@@ -51,31 +51,24 @@ values-laid : (shape : Shape) (members : List TreeMember) → list_all (λ (m : 
 values-laid shape [] = refl
 values-laid shape (m ∷ members) = rw (laid-is m, values-laid shape members) refl
 
-members-laid : (form : Form) (members : List TreeMember) → list_all (fits_key form) (map laid members) ≡ members_fit form members
+members-laid : (form : Form) (members : List TreeMember) → list_all (λ (m : KeyAndShapes). fits_rule (rule_for form m.key) m.has) (map laid members) ≡ members_fit form members
 members-laid form [] = refl
 members-laid form (m ∷ members) = rw (laid-is m, members-laid form members) refl
 
-keys-laid : (members : List TreeMember) → map (λ (m : KeyAndShapes). m.key) (map laid members) ≡ map (λ (m : TreeMember). m.key) members
-keys-laid [] = refl
-keys-laid (m ∷ members) = rw (laid-is m, keys-laid members) refl
+key-laid : (key : List ℕ) (members : List TreeMember) → list_any (λ (m : KeyAndShapes). bytes_eq m.key key) (map laid members) ≡ has_key members key
+key-laid key [] = refl
+key-laid key (m ∷ members) = rw (laid-is m, key-laid key members) refl
 
-key-named : (key : List ℕ) (members : List TreeMember) → list_any (λ other. bytes_eq other key) (map (λ (m : TreeMember). m.key) members) ≡ has_key members key
-key-named key [] = refl
-key-named key (m ∷ members) = ap (λ (b : Bool). bytes_eq m.key key || b) (key-named key members)
+rules-laid : (rules : List KeyRule) (members : List TreeMember) →
+    list_all (λ (r : KeyRule). not (is_needed r) || list_any (λ (m : KeyAndShapes). bytes_eq m.key (name (key_in r))) (map laid members)) rules ≡ list_all (λ (r : KeyRule). not (is_needed r) || has_key members (name (key_in r))) rules
+rules-laid [] members = refl
+rules-laid (r ∷ rules) members = rw (key-laid (name (key_in r)) members, rules-laid rules members) refl
 
-rules-named : (rules : List KeyRule) (members : List TreeMember) →
-    list_all (λ (r : KeyRule). not (is_needed r) || list_any (λ key. bytes_eq key (name (key_in r))) (map (λ (m : TreeMember). m.key) members)) rules ≡ list_all (λ (r : KeyRule). not (is_needed r) || has_key members (name (key_in r))) rules
-rules-named [] members = refl
-rules-named (r ∷ rules) members = rw (key-named (name (key_in r)) members, rules-named rules members) refl
-
-needed-laid : (form : Form) (members : List TreeMember) → has_needed form (map (λ (m : KeyAndShapes). m.key) (map laid members)) ≡ has_needed_keys form members
-needed-laid form members = ap (has_needed form) (keys-laid members) ∙ rules-named (keys form) members
-
-dict-laid : (r : DictRule) (members : List TreeMember) → takes_dict r (map laid members) ≡ dict_fits r members
+dict-laid : (r : DictRule) (members : List TreeMember) → takes_dict (λ (m : KeyAndShapes). m.key) (λ (m : KeyAndShapes). m.has) r (map laid members) ≡ dict_fits r members
 dict-laid dict.Never members = refl
 dict-laid dict.Any members = refl
 dict-laid (dict.Each shape) members = values-laid shape members
-dict-laid (dict.Of form) members = rw (needed-laid form members, members-laid form members) refl
+dict-laid (dict.Of form) members = rw (rules-laid (keys form) members, members-laid form members) refl
 dict-laid (dict.OneOf form) members = rw (length-map members laid, members-laid form members) refl
 
 pub shape-Dict : (members : List TreeMember) (s : Shape) → has_shape (trees.Dict members) s ≡ dict_fits (rule_of s).dict members

@@ -1,19 +1,46 @@
 -- Shapes of values by those of the values inside. This serves private functions: shapes are stated
 -- without it.
-use Rattle.std.specs.Prelude.{◌≡◌, ◌==◌, Bool, true, false, not, ◌&&◌, ◌||◌, List, length}
+use Rattle.std.specs.Prelude.{◌≡◌, ℕ, ◌+◌, Bool, ◌&&◌, List, [], ◌∷◌}
 use Rattle.std.specs.List.{list_all}
 use Rattle.qapi_tree.specs.declared.shapes.Wanted.{Wanted}
 use Rattle.qapi_tree.specs.declared.table.Form.{Form}
 use Rattle.qapi_tree.specs.declared.table.Shape.{Shape}
 use Rattle.qapi_tree.specs.declared.table.ListRule.{ListRule}
-use Rattle.qapi_tree.specs.declared.table.ListRule.TheVariants as list
 use Rattle.qapi_tree.specs.declared.table.DictRule.{DictRule}
-use Rattle.qapi_tree.specs.declared.table.DictRule.TheVariants as dict
 use Rattle.qapi_tree.specs.declared.tree.Tree.{Tree}
+use Rattle.qapi_tree.specs.declared.tree.Tree.TheOpen.{Tree-F, TreeMember-F}
+use Rattle.qapi_tree.specs.declared.tree.Tree.TheOpen as layer
+use Rattle.qapi_tree.specs.declared.tree.Tree.TheFolds.{fold-Tree}
 use Rattle.qapi_tree.specs.declared.tree.TreeMember.{TreeMember}
-use Rattle.qapi_tree.specs.Keys.{has_key}
-use Rattle.qapi_tree.specs.Shapes.{key_in, is_needed, rule_for, fits_rule, has_shape}
-use Rattle.qapi_tree.specs.Table.{name, keys}
+use Rattle.qapi_tree.specs.Shapes.{rule_for, fits_rule, has_needed, takes_list, takes_dict, has_shape}
+
+-- the sum of what is counted of each item
+abbrev pub total : {A : Type 0} → (A → ℕ) → List A → ℕ
+total count [] = 0
+total count (x ∷ xs) = count x + total count xs
+
+abbrev pub count_layer : Tree-F ℕ ℕ → ℕ
+count_layer (layer.Tree-F.Flag b) = 1
+count_layer (layer.Tree-F.Str text) = 1
+count_layer (layer.Tree-F.List items) = total (λ n. n) items + 1
+count_layer (layer.Tree-F.Dict members) = total (λ n. n) members + 1
+
+abbrev pub count_member : TreeMember-F ℕ ℕ → ℕ
+count_member m = m.tree
+
+-- how many values a value has, itself among them
+abbrev pub count_of : Tree → ℕ
+count_of = fold-Tree ℕ ℕ count_layer count_member
+
+abbrev pub items_count : List Tree → ℕ
+items_count items = total count_of items
+
+abbrev pub values_count : List TreeMember → ℕ
+values_count members = total (λ m. count_of m.tree) members
+
+-- how many values are still to be looked at
+abbrev pub left_in : List Wanted → ℕ
+left_in wanted = total (λ w. count_of w.tree.now) wanted
 
 -- each value that is asked about has its shape
 abbrev pub are_shaped : List Wanted → Bool
@@ -26,8 +53,7 @@ abbrev pub values_have : Shape → List TreeMember → Bool
 values_have shape members = list_all (λ m. has_shape m.tree shape) members
 
 abbrev pub has_needed_keys : Form → List TreeMember → Bool
-has_needed_keys form members =
-    list_all (λ r. not (is_needed r) || has_key members (name (key_in r))) (keys form)
+has_needed_keys form members = has_needed (λ m. m.key) form members
 
 abbrev pub member_fits : Form → TreeMember → Bool
 member_fits form m = fits_rule (rule_for form m.key) (has_shape m.tree)
@@ -36,16 +62,10 @@ abbrev pub members_fit : Form → List TreeMember → Bool
 members_fit form members = list_all (member_fits form) members
 
 abbrev pub list_fits : ListRule → List Tree → Bool
-list_fits list.Never items = false
-list_fits (list.One shape) items = (length items == 1) && items_have shape items
-list_fits (list.Each shape) items = items_have shape items
+list_fits rule items = takes_list has_shape rule items
 
 abbrev pub dict_fits : DictRule → List TreeMember → Bool
-dict_fits dict.Never members = false
-dict_fits dict.Any members = true
-dict_fits (dict.Each shape) members = values_have shape members
-dict_fits (dict.Of form) members = has_needed_keys form members && members_fit form members
-dict_fits (dict.OneOf form) members = (length members == 1) && members_fit form members
+dict_fits rule members = takes_dict (λ m. m.key) (λ m. has_shape m.tree) rule members
 
 -- the values that are asked about, the new ones among them, all have their shapes exactly where
 -- those before had and this holds; false says that it does not hold

@@ -13,7 +13,7 @@ use Rattle.qapi_tree.specs.declared.table.KindRule.{KindRule}
 use Rattle.qapi_tree.specs.declared.tree.Expr.{Expr}
 use Rattle.qapi_tree.specs.declared.tree.TreeMember.{TreeMember}
 use Rattle.qapi_tree.specs.Faults.{fault, syntax_fault}
-use Rattle.qapi_tree.specs.Keys.{has_key}
+use Rattle.qapi_tree.specs.Spelling.{has_key}
 use Rattle.qapi_tree.specs.Reading.{on, objects_of}
 use Rattle.qapi_tree.specs.Shapes.{key_in, is_needed, rule_for, fits_rule, has_shape}
 use Rattle.qapi_tree.specs.Table.{name, keys, kinds}

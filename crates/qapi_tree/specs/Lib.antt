@@ -1,7 +1,6 @@
 pub mod Asking
 pub mod Faults
 pub mod Judging
-pub mod Keys
 pub mod Reading
 pub mod Shapes
 pub mod Spelling

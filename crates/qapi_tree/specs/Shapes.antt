@@ -1,5 +1,5 @@
 -- Which values are of which shape (QAPI code generation guide, "Schema syntax").
-use Rattle.std.specs.Prelude.{ℕ, ◌==◌, Bool, true, false, not, ◌&&◌, ◌||◌, List, map, length, Option, Some, None, find}
+use Rattle.std.specs.Prelude.{ℕ, ◌==◌, Bool, true, false, not, ◌&&◌, ◌||◌, List, length, Option, Some, None, find}
 use Rattle.std.specs.List.{list_all, list_any}
 use Rattle.std.specs.Str.{bytes_eq}
 use Rattle.qapi_tree.specs.declared.table.Key.{Key}
@@ -45,13 +45,10 @@ abbrev pub fits_rule : Option KeyRule → (Shape → Bool) → Bool
 fits_rule None has = false
 fits_rule (Some r) has = has (shape_in r)
 
-abbrev pub fits_key : Form → KeyAndShapes → Bool
-fits_key form m = fits_rule (rule_for form m.key) m.has
-
 -- the keys that the form wants are there
-abbrev pub has_needed : Form → List (List ℕ) → Bool
-has_needed form names =
-    list_all (λ r. not (is_needed r) || list_any (λ key. bytes_eq key (name (key_in r))) names) (keys form)
+abbrev pub has_needed : {M : Type 0} → (M → List ℕ) → Form → List M → Bool
+has_needed key_of form members =
+    list_all (λ r. not (is_needed r) || list_any (λ m. bytes_eq (key_of m) (name (key_in r))) members) (keys form)
 
 abbrev pub takes_text : ScalarRule → Bool
 takes_text scalar.Text = true
@@ -63,25 +60,28 @@ takes_flag scalar.Flag = true
 takes_flag scalar.Text = false
 takes_flag scalar.Never = false
 
-abbrev pub takes_list : ListRule → List (Shape → Bool) → Bool
-takes_list list.Never items = false
-takes_list (list.One shape) items = (length items == 1) && list_all (λ has. has shape) items
-takes_list (list.Each shape) items = list_all (λ has. has shape) items
+-- items, by whether each has a shape
+abbrev pub takes_list : {A : Type 0} → (A → Shape → Bool) → ListRule → List A → Bool
+takes_list has list.Never items = false
+takes_list has (list.One shape) items = (length items == 1) && list_all (λ x. has x shape) items
+takes_list has (list.Each shape) items = list_all (λ x. has x shape) items
 
-abbrev pub takes_dict : DictRule → List KeyAndShapes → Bool
-takes_dict dict.Never members = false
-takes_dict dict.Any members = true
-takes_dict (dict.Each shape) members = list_all (λ m. m.has shape) members
-takes_dict (dict.Of form) members =
-    has_needed form (map (λ m. m.key) members) && list_all (fits_key form) members
-takes_dict (dict.OneOf form) members = (length members == 1) && list_all (fits_key form) members
+-- members, by their keys and whether the value of each has a shape
+abbrev pub takes_dict : {M : Type 0} → (M → List ℕ) → (M → Shape → Bool) → DictRule → List M → Bool
+takes_dict key_of has dict.Never members = false
+takes_dict key_of has dict.Any members = true
+takes_dict key_of has (dict.Each shape) members = list_all (λ m. has m shape) members
+takes_dict key_of has (dict.Of form) members =
+    has_needed key_of form members && list_all (λ m. fits_rule (rule_for form (key_of m)) (has m)) members
+takes_dict key_of has (dict.OneOf form) members =
+    (length members == 1) && list_all (λ m. fits_rule (rule_for form (key_of m)) (has m)) members
 
 -- one layer, with the shapes of each inner value in its place
 abbrev pub shape_layer : Tree-F (Shape → Bool) KeyAndShapes → Shape → Bool
 shape_layer (layer.Tree-F.Flag b) s = takes_flag (rule_of s).scalar
 shape_layer (layer.Tree-F.Str text) s = takes_text (rule_of s).scalar
-shape_layer (layer.Tree-F.List items) s = takes_list (rule_of s).list items
-shape_layer (layer.Tree-F.Dict members) s = takes_dict (rule_of s).dict members
+shape_layer (layer.Tree-F.List items) s = takes_list (λ has. has) (rule_of s).list items
+shape_layer (layer.Tree-F.Dict members) s = takes_dict (λ m. m.key) (λ m. m.has) (rule_of s).dict members
 
 abbrev pub member_layer : TreeMember-F (Shape → Bool) KeyAndShapes → KeyAndShapes
 member_layer m = record { key = m.key; has = m.tree }

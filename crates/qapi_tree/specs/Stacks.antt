@@ -26,9 +26,7 @@ takes_value _ = false
 -- an object stands where a value may, and in the row
 abbrev pub takes_object : Expect → Bool
 takes_object Object = true
-takes_object Value = true
-takes_object ValueOrEnd = true
-takes_object _ = false
+takes_object expect = takes_value expect
 
 abbrev pub takes_key : Expect → Bool
 takes_key Key = true
@@ -54,25 +52,15 @@ given (opens.Dict members key line) v = opens.Dict (members ++ record { key = ke
 -- the same of an object whose `{` stands in a line: in the row it is an expression
 abbrev pub given_object : Open → ℕ → List TreeMember → Open
 given_object (opens.File exprs) line keys = opens.File (exprs ++ record { line = line; keys = keys } ∷ [])
-given_object (opens.List items) line keys = given (opens.List items) (trees.Dict keys)
-given_object (opens.Dict members key outer) line keys = given (opens.Dict members key outer) (trees.Dict keys)
+given_object top line keys = given top (trees.Dict keys)
 
 abbrev pub after_value : Open → Expect
 after_value (opens.File exprs) = Object
-after_value (opens.List items) = CommaOrEnd
-after_value (opens.Dict members key line) = CommaOrEnd
+after_value _ = CommaOrEnd
 
 abbrev pub after_comma : List Open → Expect
 after_comma (opens.Dict members key line ∷ outer) = Key
 after_comma _ = Value
-
-abbrev pub list_is_open : Open → Bool
-list_is_open (opens.List items) = true
-list_is_open _ = false
-
-abbrev pub object_is_open : Open → Bool
-object_is_open (opens.Dict members key line) = true
-object_is_open _ = false
 
 -- a value goes into what is innermost
 abbrev pub put : Tree → List Open → State

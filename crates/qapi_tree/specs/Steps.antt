@@ -14,7 +14,7 @@ use Rattle.qapi_tree.specs.declared.stack.Open.TheVariants as opens
 use Rattle.qapi_tree.specs.declared.tree.Tree.{Tree}
 use Rattle.qapi_tree.specs.declared.tree.Tree.TheVariants as trees
 use Rattle.qapi_tree.specs.Faults.{fault, syntax_fault}
-use Rattle.qapi_tree.specs.Keys.{has_key}
+use Rattle.qapi_tree.specs.Spelling.{has_key}
 use Rattle.qapi_tree.specs.Stacks.{State, takes_value, takes_object, takes_key, ends_list, ends_object, after_comma, put, put_object}
 
 abbrev pub value_step : State → Tree → ℕ → Result State TreeFault

@@ -1,11 +1,13 @@
 -- The first fault of tokens, told by which tokens begin a row of objects (this project's own rule).
-use Rattle.std.specs.Prelude.{ℕ, List, [], ◌∷◌, ◌++◌}
+use Rattle.std.specs.Prelude.{◌≡◌, ℕ, List, [], ◌∷◌, ◌++◌, Some}
 use Rattle.qapi_lex.specs.declared.token.Token.{Token}
+use Rattle.qapi_lex.specs.declared.token.TokenKind.{TokenKind}
 use Rattle.qapi_lex.specs.declared.token.TokenKind.TheVariants.{Str}
 use Rattle.qapi_tree.specs.declared.fault.TreeFault.{TreeFault}
 use Rattle.qapi_tree.specs.declared.fault.TreeRule.TheVariants.{DuplicateKey}
 use Rattle.qapi_tree.specs.declared.tree.Expr.{Expr}
 use Rattle.qapi_tree.specs.Faults.{fault, syntax_fault}
+use Rattle.qapi_tree.specs.Judging.{first_fault}
 use Rattle.qapi_tree.specs.Reading.{last_line}
 use Rattle.qapi_tree.specs.Spelling.{at, SpellsRow}
 
@@ -15,13 +17,23 @@ pub record BeginsRow (ts : List Token) : Type 0 where
   pub exprs : List Expr
   pub is : SpellsRow (ts ++ rest) exprs
 
--- a token's fault: it cannot stand there, or it is a key that the object has already
-pub data IsFaultOf : Token → TreeFault → Type 0 where
-  syntax : {t : Token} → IsFaultOf t (syntax_fault t.line)
-  twice : (key : List ℕ) (l c : ℕ) → IsFaultOf (at (Str key) l c) (fault DuplicateKey l key)
+-- with this token no row begins; of a string, with none in its place
+abbrev pub IsMisplaced : List Token → TokenKind → ℕ → ℕ → Type 0
+IsMisplaced before (Str key) l c = (other : List ℕ) → BeginsRow (before ++ at (Str other) l c ∷ []) → ⊥
+IsMisplaced before kind l c = BeginsRow (before ++ at kind l c ∷ []) → ⊥
 
--- all tokens before the fault begin a row, and with it none does
-pub data HasFirstFault : List Token → TreeFault → Type 0 where
-  at_token : {f : TreeFault} (before rest : List Token) (t : Token) → BeginsRow before → (BeginsRow (before ++ t ∷ []) → ⊥) → IsFaultOf t f →
-      HasFirstFault (before ++ t ∷ rest) f
-  at_end : (ts : List Token) → BeginsRow ts → ((exprs : List Expr) → SpellsRow ts exprs → ⊥) → HasFirstFault ts (syntax_fault (last_line 0 ts))
+-- the first fault of tokens: all tokens before it begin a row
+pub data FirstFault : List Token → TreeFault → Type 0 where
+  -- a token that may not stand there
+  misplaced : (before rest : List Token) (kind : TokenKind) (l c : ℕ) → BeginsRow before → IsMisplaced before kind l c →
+      FirstFault (before ++ at kind l c ∷ rest) (syntax_fault l)
+  -- a key that may not stand there, where another key may
+  twice : (before rest : List Token) (key other : List ℕ) (l c : ℕ) → (BeginsRow (before ++ at (Str key) l c ∷ []) → ⊥) →
+      BeginsRow (before ++ at (Str other) l c ∷ []) → FirstFault (before ++ at (Str key) l c ∷ rest) (fault DuplicateKey l key)
+  -- the end, where further tokens are wanted
+  short : (ts : List Token) → BeginsRow ts → ((exprs : List Expr) → SpellsRow ts exprs → ⊥) → FirstFault ts (syntax_fault (last_line 0 ts))
+
+-- the fault of tokens: their first, or else the first of the expressions that they spell
+pub data HasFault : List Token → TreeFault → Type 0 where
+  of_tokens : {ts : List Token} {f : TreeFault} → FirstFault ts f → HasFault ts f
+  of_expressions : {ts : List Token} {f : TreeFault} (exprs : List Expr) → SpellsRow ts exprs → first_fault exprs ≡ Some f → HasFault ts f

@@ -3,13 +3,12 @@ ghost use Rattle.std.specs.Option.{option_copied, is_none};
 ghost use Rattle.qapi_tree.specs.Faults.{fault, memory_fault};
 ghost use Rattle.qapi_tree.specs.Asking.{member_fits};
 ghost use Rattle.qapi_tree.specs.Judging.{form_of as only_form_of, first_unknown as unknown, first_missing as missing, first_wrong as wrong, fault_in, fault_of, first_fault};
-ghost use Rattle.qapi_tree.specs.Keys.{has_key as has_key_of};
+ghost use Rattle.qapi_tree.specs.Spelling.{has_key as has_key_of};
 ghost use Rattle.qapi_tree.specs.Shapes.{key_in, is_needed, rule_for as rule_of_key};
 ghost use Rattle.qapi_tree.specs.Table.{name};
 
 use crate::fault::{TreeFault, TreeRule};
-use crate::parser::has_key;
-use crate::shapes::{is_of_shape, rule_for};
+use crate::shapes::{has_key, is_of_shape, rule_for};
 use crate::table::{Form, KeyRule, all_kinds, keys_of, name_of};
 use crate::tree::{Expr, TreeMember};
 use qm_base::{NoMemory, Text};

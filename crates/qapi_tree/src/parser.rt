@@ -1,11 +1,11 @@
 ghost use Rattle.std.specs.Prelude.{◌≡◌, ◌≢◌, List, OnOk, ◌∷◌, IfOk};
 ghost use Rattle.qapi_tree.specs.Faults.{memory_fault, syntax_fault};
-ghost use Rattle.qapi_tree.specs.Keys.{has_key as key_in};
 ghost use Rattle.qapi_tree.specs.Reading.{Steps, whole};
-ghost use Rattle.qapi_tree.specs.Stacks.{begun, takes_value as of_value, takes_object as of_object, takes_key as of_key, given, given_object, after_value as next_after, ends_list as list_end, ends_object as object_end, after_comma as comma_then, list_is_open, object_is_open};
+ghost use Rattle.qapi_tree.specs.Stacks.{begun, takes_value as of_value, takes_object as of_object, takes_key as of_key, given, given_object, after_value as next_after, ends_list as list_end, ends_object as object_end, after_comma as comma_then};
 ghost use Rattle.qapi_tree.specs.Steps.{step, value_step, open_list, open_object, key_step, close_list, close_object, colon_step, comma_step, mark_step, string_step};
 
 use crate::fault::{TreeFault, TreeRule};
+use crate::named_members::{NamedMembers, make_place};
 use crate::release::release;
 use crate::stack::{Expect, Open};
 use crate::tree::{Expr, Tree, TreeList, TreeMember};
@@ -42,48 +42,31 @@ impl Model for Parser {
 fn takes_value(expect: Expect) -> bool
     ensures { result ≡ of_value expect }
 {
-    match expect {
-        Expect::Value | Expect::ValueOrEnd => true,
-        Expect::Object | Expect::Key | Expect::KeyOrEnd | Expect::Colon | Expect::CommaOrEnd =>
-            false,
-    }
+    matches!(expect, Expect::Value | Expect::ValueOrEnd)
 }
 
 fn takes_object(expect: Expect) -> bool
     ensures { result ≡ of_object expect }
 {
-    match expect {
-        Expect::Object | Expect::Value | Expect::ValueOrEnd => true,
-        Expect::Key | Expect::KeyOrEnd | Expect::Colon | Expect::CommaOrEnd => false,
-    }
+    matches!(expect, Expect::Object | Expect::Value | Expect::ValueOrEnd)
 }
 
 fn takes_key(expect: Expect) -> bool
     ensures { result ≡ of_key expect }
 {
-    match expect {
-        Expect::Key | Expect::KeyOrEnd => true,
-        Expect::Object | Expect::Value | Expect::ValueOrEnd | Expect::Colon | Expect::CommaOrEnd =>
-            false,
-    }
+    matches!(expect, Expect::Key | Expect::KeyOrEnd)
 }
 
 fn ends_list(expect: Expect) -> bool
     ensures { result ≡ list_end expect }
 {
-    match expect {
-        Expect::ValueOrEnd | Expect::CommaOrEnd => true,
-        Expect::Object | Expect::Value | Expect::Key | Expect::KeyOrEnd | Expect::Colon => false,
-    }
+    matches!(expect, Expect::ValueOrEnd | Expect::CommaOrEnd)
 }
 
 fn ends_object(expect: Expect) -> bool
     ensures { result ≡ object_end expect }
 {
-    match expect {
-        Expect::KeyOrEnd | Expect::CommaOrEnd => true,
-        Expect::Object | Expect::Value | Expect::ValueOrEnd | Expect::Key | Expect::Colon => false,
-    }
+    matches!(expect, Expect::KeyOrEnd | Expect::CommaOrEnd)
 }
 
 fn after_value(top: &Open) -> Expect
@@ -104,29 +87,19 @@ fn after_comma(top: &Open) -> Expect
     }
 }
 
-/// Whether a member has the key.
-pub fn has_key(members: &[TreeMember], key: &[u8]) -> bool
-    ensures { result ≡ key_in members.now key.now }
-{
-    members.iter().any(|member| member.key.as_slice() == key)
-}
-
 /// Puts a value into what it stands in.
 fn give(alloc: Global, top: &mut Open, value: Tree) -> Result<(), NoMemory>
     ensures { OnOk result (top.new ≡ given top.old value) }
 {
     match top {
         Open::File(_) => Ok(()),
-        Open::List(items) => match items.push(value) {
-            Ok(()) => Ok(()),
-            Err(_) => Err(NoMemory),
-        },
+        Open::List(items) => {
+            items.push(value)?;
+            Ok(())
+        }
         Open::Dict(members, key, _) => {
             let key = mem::replace(key, Text::new(alloc));
-            match members.push(TreeMember { key, tree: value }) {
-                Ok(()) => Ok(()),
-                Err(_) => Err(NoMemory),
-            }
+            members.push(alloc, key, value)
         }
     }
 }
@@ -146,50 +119,15 @@ fn give_object(
     }
 }
 
-/// Takes the memory for one more item, which takes none from then on.
-fn make_place<T: Drop>(items: &mut Items<T>, item: T) -> Result<(), NoMemory>
-    ensures { OnOk result (items.new ≡ items.old) }
-{
-    match items.push(item) {
-        Ok(()) => {
-            let _ = items.pop();
-            Ok(())
-        }
-        Err(_) => Err(NoMemory),
-    }
-}
-
 /// Takes the memory for one more value, so that a value is not let go for want of it once it is
 /// whole and may nest deeply.
 fn make_place_in(alloc: Global, top: &mut Open) -> Result<(), NoMemory>
     ensures { OnOk result (top.new ≡ top.old) }
 {
-    let tree = Tree::Flag(false);
     match top {
         Open::File(_) => Ok(()),
-        Open::List(items) => make_place(items, tree),
-        Open::Dict(members, _, _) => {
-            let key = Text::new(alloc);
-            make_place(members, TreeMember { key, tree })
-        }
-    }
-}
-
-fn is_list(top: &Open) -> bool
-    ensures { result ≡ list_is_open top.now }
-{
-    match top {
-        Open::List(_) => true,
-        Open::File(_) | Open::Dict(_, _, _) => false,
-    }
-}
-
-fn is_object(top: &Open) -> bool
-    ensures { result ≡ object_is_open top.now }
-{
-    match top {
-        Open::Dict(_, _, _) => true,
-        Open::File(_) | Open::List(_) => false,
+        Open::List(items) => make_place(items, Tree::Flag(false)),
+        Open::Dict(members, _, _) => members.make_place(alloc),
     }
 }
 
@@ -198,7 +136,7 @@ fn release_open(open: Open) {
     match open {
         Open::File(_) => {}
         Open::List(items) => release(Tree::List(items)),
-        Open::Dict(members, _, _) => release(Tree::Dict(members)),
+        Open::Dict(members, _, _) => release(Tree::Dict(members.into_items())),
     }
 }
 
@@ -245,10 +183,7 @@ impl Parser {
             return Err(self.syntax(line));
         }
         self.expect = after_value(&self.current);
-        match give(self.alloc, &mut self.current, value) {
-            Ok(()) => Ok(()),
-            Err(NoMemory) => Err(self.memory()),
-        }
+        give(self.alloc, &mut self.current, value).map_err(|_error| self.memory())
     }
 
     /// Opens what is innermost from then on.
@@ -258,13 +193,9 @@ impl Parser {
         make_place_in(self.alloc, &mut self.current)?;
         make_place(&mut self.outer, Open::List(Items::new(self.alloc)))?;
         let outer = mem::replace(&mut self.current, top);
-        match self.outer.push(outer) {
-            Ok(()) => {
-                self.expect = next;
-                Ok(())
-            }
-            Err(_) => Err(NoMemory),
-        }
+        self.outer.push(outer)?;
+        self.expect = next;
+        Ok(())
     }
 
     fn open_list(&mut self, line: u32) -> Result<(), TreeFault>
@@ -273,10 +204,9 @@ impl Parser {
         if !takes_value(self.expect) {
             return Err(self.syntax(line));
         }
-        match self.open(Open::List(Items::new(self.alloc)), Expect::ValueOrEnd) {
-            Ok(()) => Ok(()),
-            Err(NoMemory) => Err(self.memory()),
-        }
+        let top = Open::List(Items::new(self.alloc));
+        self.open(top, Expect::ValueOrEnd)
+            .map_err(|_error| self.memory())
     }
 
     fn open_object(&mut self, line: u32) -> Result<(), TreeFault>
@@ -285,11 +215,9 @@ impl Parser {
         if !takes_object(self.expect) {
             return Err(self.syntax(line));
         }
-        let top = Open::Dict(Items::new(self.alloc), Text::new(self.alloc), line);
-        match self.open(top, Expect::KeyOrEnd) {
-            Ok(()) => Ok(()),
-            Err(NoMemory) => Err(self.memory()),
-        }
+        let top = Open::Dict(NamedMembers::new(self.alloc), Text::new(self.alloc), line);
+        self.open(top, Expect::KeyOrEnd)
+            .map_err(|_error| self.memory())
     }
 
     fn key(&mut self, key: Text, line: u32) -> Result<(), TreeFault>
@@ -297,7 +225,7 @@ impl Parser {
     {
         match &mut self.current {
             Open::Dict(members, old, _) => {
-                if has_key(members.as_slice(), key.as_slice()) {
+                if members.has(key.as_slice()) {
                     return Err(TreeFault {
                         rule: TreeRule::DuplicateKey,
                         line,
@@ -315,40 +243,40 @@ impl Parser {
     fn close_list(&mut self, line: u32) -> Result<(), TreeFault>
         ensures { Steps (close_list self.old.stack line) result self.new }
     {
-        if !is_list(&self.current) {
-            return Err(self.syntax(line));
-        }
         let Some(outer) = self.outer.pop() else {
             return Err(self.syntax(line));
         };
         self.expect = after_value(&outer);
         match mem::replace(&mut self.current, outer) {
-            Open::List(items) => match give(self.alloc, &mut self.current, Tree::List(items)) {
-                Ok(()) => Ok(()),
-                Err(NoMemory) => Err(self.memory()),
-            },
-            Open::File(_) | Open::Dict(_, _, _) => Err(self.syntax(line)),
+            Open::List(items) => {
+                give(self.alloc, &mut self.current, Tree::List(items)).map_err(
+                    |_error| self.memory(),
+                )
+            }
+            open => {
+                release_open(open);
+                Err(self.syntax(line))
+            }
         }
     }
 
     fn close_object(&mut self, line: u32) -> Result<(), TreeFault>
         ensures { Steps (close_object self.old.stack line) result self.new }
     {
-        if !is_object(&self.current) {
-            return Err(self.syntax(line));
-        }
         let Some(outer) = self.outer.pop() else {
             return Err(self.syntax(line));
         };
         self.expect = after_value(&outer);
         match mem::replace(&mut self.current, outer) {
             Open::Dict(keys, _, begun) => {
-                match give_object(self.alloc, &mut self.current, begun, keys) {
-                    Ok(()) => Ok(()),
-                    Err(NoMemory) => Err(self.memory()),
-                }
+                give_object(self.alloc, &mut self.current, begun, keys.into_items()).map_err(
+                    |_error| self.memory(),
+                )
             }
-            Open::File(_) | Open::List(_) => Err(self.syntax(line)),
+            open => {
+                release_open(open);
+                Err(self.syntax(line))
+            }
         }
     }
 
@@ -419,10 +347,10 @@ impl Parser {
         match &token.kind {
             TokenKind::Mark(byte) => self.mark(*byte, token.line),
             TokenKind::Flag(b) => self.value(Tree::Flag(*b), token.line),
-            TokenKind::Str(text) => match text.copy(self.alloc) {
-                Ok(text) => self.string(text, token.line),
-                Err(NoMemory) => Err(self.memory()),
-            },
+            TokenKind::Str(text) => {
+                let text = text.copy(self.alloc).map_err(|_error| self.memory())?;
+                self.string(text, token.line)
+            }
         }
     }
 

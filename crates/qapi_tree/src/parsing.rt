@@ -3,7 +3,7 @@ ghost use Rattle.qapi_lex.specs.declared.token.Token.{Token};
 ghost use Rattle.qapi_tree.specs.declared.tree.Expr.{Expr};
 ghost use Rattle.qapi_tree.specs.declared.fault.TreeFault.{TreeFault};
 ghost use Rattle.qapi_tree.specs.Spelling.{SpellsRow};
-ghost use Rattle.qapi_tree.specs.Viable.{HasFirstFault};
+ghost use Rattle.qapi_tree.specs.Viable.{HasFault};
 ghost use Rattle.qapi_tree.specs.Faults.{memory_fault};
 ghost use Rattle.qapi_tree.specs.Judging.{expressions_of, first_fault};
 ghost use Rattle.qapi_tree.specs.Reading.{objects_of};
@@ -24,12 +24,9 @@ fn objects(alloc: Global, tokens: &TokenList) -> Result<TreeList, TreeFault>
     let mut line = 0;
     for token in tokens.as_slice() {
         line = token.line;
-        match parser.push(token) {
-            Ok(()) => {}
-            Err(fault) => {
-                parser.release();
-                return Err(fault);
-            }
+        if let Err(fault) = parser.push(token) {
+            parser.release();
+            return Err(fault);
         }
     }
     parser.finish(line)
@@ -52,12 +49,10 @@ fn objects(alloc: Global, tokens: &TokenList) -> Result<TreeList, TreeFault>
 pub fn parse(alloc: Global, tokens: &TokenList) -> Result<TreeList, TreeFault>
     ensures { result ≢ Err memory_fault → result ≡ expressions_of tokens.now }
 {
-    match objects(alloc, tokens) {
-        Ok(exprs) => match first_fault(alloc, exprs.as_slice()) {
-            Some(fault) => Err(fault),
-            None => Ok(exprs),
-        },
-        Err(fault) => Err(fault),
+    let exprs = objects(alloc, tokens)?;
+    match first_fault(alloc, exprs.as_slice()) {
+        Some(fault) => Err(fault),
+        None => Ok(exprs),
     }
 }
 
@@ -67,11 +62,13 @@ pub fn each_expression_is_spelled()
         (expressions_of tokens ≡ Ok exprs) ↔ (SpellsRow tokens exprs × (first_fault exprs ≡ None)) }
 {}
 
-/// A fault of tokens is their first: all tokens before it begin a row of objects, and with it none
-/// does.
+/// Tokens are refused with a fault exactly where it is theirs. Where some tokens from the left begin
+/// no row of objects any more, it is the first of these: `DuplicateKey` at a string that another
+/// string may replace, and else `Syntax`. Where the tokens spell expressions, it is the first of
+/// theirs.
 pub fn each_fault_is_the_first()
     ensures { (tokens : List Token) (fault : TreeFault) →
-        objects_of tokens ≡ Err fault → HasFirstFault tokens fault }
+        (expressions_of tokens ≡ Err fault) ↔ HasFault tokens fault }
 {}
 
 /// Want of memory is no fault of tokens.

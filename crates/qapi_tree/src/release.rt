@@ -16,17 +16,15 @@ struct Taken {
 fn take_last(tree: &mut Tree) -> Option<Taken> {
     match tree {
         Tree::Flag(_) | Tree::Str(_) => None,
-        Tree::List(items) => match items.pop() {
-            Some(tree) => Some(Taken { key: None, tree }),
-            None => None,
-        },
-        Tree::Dict(members) => match members.pop() {
-            Some(TreeMember { key, tree }) => Some(Taken {
-                key: Some(key),
-                tree,
-            }),
-            None => None,
-        },
+        Tree::List(items) => {
+            let tree = items.pop()?;
+            Some(Taken { key: None, tree })
+        }
+        Tree::Dict(members) => {
+            let TreeMember { key, tree } = members.pop()?;
+            let key = Some(key);
+            Some(Taken { key, tree })
+        }
     }
 }
 

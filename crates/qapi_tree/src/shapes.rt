@@ -1,12 +1,11 @@
-ghost use Rattle.std.specs.Prelude.{◌≡◌, ◌&&◌, OnOk, IfOk};
+ghost use Rattle.std.specs.Prelude.{◌≡◌, ◌+◌, ◌≤◌, ◌<◌, ◌&&◌, OnOk, IfOk};
 ghost use Rattle.std.specs.Option.{option_copied};
 ghost use Rattle.std.specs.Str.{bytes_eq};
 ghost use Rattle.qapi_tree.specs.Shapes.{key_in, shape_in, is_needed as needed, rule_for as rule_of_key, takes_text as text_taken, takes_flag as flag_taken, has_shape};
-ghost use Rattle.qapi_tree.specs.Asking.{are_shaped, items_have, values_have, has_needed_keys as needed_keys, member_fits, members_fit, list_fits, dict_fits, Asks};
-ghost use Rattle.qapi_tree.specs.Keys.{has_key as has_key_of};
+ghost use Rattle.qapi_tree.specs.Asking.{are_shaped, items_have, values_have, has_needed_keys as needed_keys, member_fits, members_fit, list_fits, dict_fits, Asks, count_of, items_count, values_count, left_in};
+ghost use Rattle.qapi_tree.specs.Spelling.{has_key as has_key_of};
 ghost use Rattle.qapi_tree.specs.Table.{name};
 
-use crate::parser::has_key;
 use crate::table::{
     DictRule, Form, Key, KeyRule, ListRule, ScalarRule, Shape, keys_of, name_of, rule_of,
 };
@@ -27,8 +26,7 @@ impl KeyRule {
         ensures { result ≡ key_in self }
     {
         match self {
-            KeyRule::Needed(key, _) => key,
-            KeyRule::Optional(key, _) => key,
+            KeyRule::Needed(key, _) | KeyRule::Optional(key, _) => key,
         }
     }
 
@@ -37,8 +35,7 @@ impl KeyRule {
         ensures { result ≡ shape_in self }
     {
         match self {
-            KeyRule::Needed(_, shape) => shape,
-            KeyRule::Optional(_, shape) => shape,
+            KeyRule::Needed(_, shape) | KeyRule::Optional(_, shape) => shape,
         }
     }
 
@@ -46,11 +43,15 @@ impl KeyRule {
     pub fn is_needed(self) -> bool
         ensures { result ≡ needed self }
     {
-        match self {
-            KeyRule::Needed(_, _) => true,
-            KeyRule::Optional(_, _) => false,
-        }
+        matches!(self, KeyRule::Needed(_, _))
     }
+}
+
+/// Whether a member has the key.
+pub fn has_key(members: &[TreeMember], key: &[u8]) -> bool
+    ensures { result ≡ has_key_of members.now key.now }
+{
+    members.iter().any(|member| member.key.as_slice() == key)
 }
 
 fn is_rule_for(rule: &KeyRule, key: &[u8]) -> bool
@@ -69,39 +70,35 @@ pub fn rule_for(form: Form, key: &[u8]) -> Option<&'static KeyRule>
 fn takes_text(rule: ScalarRule) -> bool
     ensures { result ≡ text_taken rule }
 {
-    match rule {
-        ScalarRule::Text => true,
-        ScalarRule::Flag | ScalarRule::Never => false,
-    }
+    matches!(rule, ScalarRule::Text)
 }
 
 fn takes_flag(rule: ScalarRule) -> bool
     ensures { result ≡ flag_taken rule }
 {
-    match rule {
-        ScalarRule::Flag => true,
-        ScalarRule::Text | ScalarRule::Never => false,
-    }
+    matches!(rule, ScalarRule::Flag)
 }
 
+#[tactic(auto, using(crate::proofs::CountLaws::pushed))]
 fn ask<'a>(pending: &mut Vec<Wanted<'a>>, tree: &'a Tree, shape: Shape) -> Result<(), NoMemory>
-    ensures { OnOk result (are_shaped pending.new.items
+    ensures shapes { OnOk result (are_shaped pending.new.items
         ≡ (has_shape tree.now shape && are_shaped pending.old.items)) }
+    ensures left { OnOk result (left_in pending.new.items ≡ left_in pending.old.items + count_of tree.now) }
 {
-    match pending.push(Wanted { tree, shape }) {
-        Ok(()) => Ok(()),
-        Err(_) => Err(NoMemory),
-    }
+    pending.push(Wanted { tree, shape })?;
+    Ok(())
 }
 
 /// Asks for a shape of each item.
+#[tactic(auto, using(crate::proofs::CountLaws::count_next))]
 fn ask_items<'a>(
     pending: &mut Vec<Wanted<'a>>,
     items: &'a [Tree],
     shape: Shape,
 ) -> Result<(), NoMemory>
-    ensures { OnOk result (are_shaped pending.new.items
+    ensures shapes { OnOk result (are_shaped pending.new.items
         ≡ (items_have shape items.now && are_shaped pending.old.items)) }
+    ensures left { OnOk result (left_in pending.new.items ≡ left_in pending.old.items + items_count items.now) }
 {
     for item in items {
         ask(pending, item, shape)?;
@@ -110,13 +107,15 @@ fn ask_items<'a>(
 }
 
 /// Asks for a shape of each value.
+#[tactic(auto, using(crate::proofs::CountLaws::count_next))]
 fn ask_values<'a>(
     pending: &mut Vec<Wanted<'a>>,
     members: &'a [TreeMember],
     shape: Shape,
 ) -> Result<(), NoMemory>
-    ensures { OnOk result (are_shaped pending.new.items
+    ensures shapes { OnOk result (are_shaped pending.new.items
         ≡ (values_have shape members.now && are_shaped pending.old.items)) }
+    ensures left { OnOk result (left_in pending.new.items ≡ left_in pending.old.items + values_count members.now) }
 {
     for member in members {
         ask(pending, &member.tree, shape)?;
@@ -130,8 +129,9 @@ fn ask_member<'a>(
     form: Form,
     member: &'a TreeMember,
 ) -> Result<bool, NoMemory>
-    ensures { IfOk result (λ answer. Asks answer (are_shaped pending.new.items)
+    ensures shapes { IfOk result (λ answer. Asks answer (are_shaped pending.new.items)
         (member_fits form member.now) (are_shaped pending.old.items)) }
+    ensures left { IfOk result (λ _. left_in pending.new.items ≤ left_in pending.old.items + count_of member.now.tree) }
 {
     match rule_for(form, member.key.as_slice()) {
         Some(rule) => {
@@ -148,8 +148,9 @@ fn ask_members<'a>(
     form: Form,
     members: &'a [TreeMember],
 ) -> Result<bool, NoMemory>
-    ensures { IfOk result (λ answer. Asks answer (are_shaped pending.new.items)
+    ensures shapes { IfOk result (λ answer. Asks answer (are_shaped pending.new.items)
         (members_fit form members.now) (are_shaped pending.old.items)) }
+    ensures left { IfOk result (λ _. left_in pending.new.items ≤ left_in pending.old.items + values_count members.now) }
 {
     for member in members {
         if !ask_member(pending, form, member)? {
@@ -179,8 +180,9 @@ fn ask_list<'a>(
     rule: ListRule,
     items: &'a [Tree],
 ) -> Result<bool, NoMemory>
-    ensures { IfOk result (λ answer. Asks answer (are_shaped pending.new.items)
+    ensures shapes { IfOk result (λ answer. Asks answer (are_shaped pending.new.items)
         (list_fits rule items.now) (are_shaped pending.old.items)) }
+    ensures left { IfOk result (λ _. left_in pending.new.items ≤ left_in pending.old.items + items_count items.now) }
 {
     match rule {
         ListRule::Never => Ok(false),
@@ -204,8 +206,9 @@ fn ask_dict<'a>(
     rule: DictRule,
     members: &'a [TreeMember],
 ) -> Result<bool, NoMemory>
-    ensures { IfOk result (λ answer. Asks answer (are_shaped pending.new.items)
+    ensures shapes { IfOk result (λ answer. Asks answer (are_shaped pending.new.items)
         (dict_fits rule members.now) (are_shaped pending.old.items)) }
+    ensures left { IfOk result (λ _. left_in pending.new.items ≤ left_in pending.old.items + values_count members.now) }
 {
     match rule {
         DictRule::Never => Ok(false),
@@ -233,9 +236,11 @@ fn ask_dict<'a>(
 
 /// Asks for the shapes of the values inside; false if the value has not the shape whatever they
 /// are.
+#[tactic(auto, using(crate::proofs::CountLaws::count_flag, crate::proofs::CountLaws::count_str))]
 fn ask_inside<'a>(pending: &mut Vec<Wanted<'a>>, wanted: Wanted<'a>) -> Result<bool, NoMemory>
-    ensures { IfOk result (λ answer. Asks answer (are_shaped pending.new.items)
+    ensures shapes { IfOk result (λ answer. Asks answer (are_shaped pending.new.items)
         (has_shape wanted.entry.tree.now wanted.entry.shape) (are_shaped pending.old.items)) }
+    ensures left { IfOk result (λ _. left_in pending.new.items < left_in pending.old.items + count_of wanted.entry.tree.now) }
 {
     let Wanted { tree, shape } = wanted;
     let rule = rule_of(shape);
@@ -249,18 +254,16 @@ fn ask_inside<'a>(pending: &mut Vec<Wanted<'a>>, wanted: Wanted<'a>) -> Result<b
 
 /// Whether the value has the shape. A list of the values that are still to be looked at stands in
 /// place of recursion, since conditions nest without bound.
+#[tactic(auto, using(crate::proofs::CountLaws::pushed))]
 pub fn is_of_shape(alloc: Global, tree: &Tree, shape: Shape) -> Result<bool, NoMemory>
     ensures { IfOk result (λ answer. answer ≡ has_shape tree.now shape) }
 {
     let mut pending = Vec::new(alloc);
     ask(&mut pending, tree, shape)?;
-    for _turn in 0..u64::MAX {
-        let Some(wanted) = pending.pop() else {
-            return Ok(true);
-        };
+    'turn: while let Some(wanted) = pending.pop() {
         if !ask_inside(&mut pending, wanted)? {
             return Ok(false);
         }
     }
-    Err(NoMemory)
+    Ok(true)
 }

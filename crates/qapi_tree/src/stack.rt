@@ -1,4 +1,5 @@
-use crate::tree::{Tree, TreeList, TreeMember};
+use crate::named_members::NamedMembers;
+use crate::tree::{Tree, TreeList};
 use qm_base::Text;
 use sqlite_items::Items;
 
@@ -8,7 +9,7 @@ use sqlite_items::Items;
 pub enum Open {
     File(TreeList),
     List(Items<Tree>),
-    Dict(Items<TreeMember>, Text, u32),
+    Dict(NamedMembers, Text, u32),
 }
 
 /// What may stand next.

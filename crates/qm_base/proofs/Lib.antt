@@ -1,3 +1,5 @@
+pub mod Fresh
+pub mod NameLemmas
 pub mod Prefixes
 pub mod SearchLemmas
 pub mod Telling

@@ -1,6 +1,12 @@
 -- One more item, for any search from the front.
-use Rattle.std.proofs.Common.{◌≡◌, ℕ, ◌+◌, ◌≤◌, zero, suc, List, [], ◌∷◌, ◌++◌, length, refl, ap, sym, ◌∙◌, arith, append_assoc, length-append}
+use Rattle.std.proofs.Common.{◌≡◌, Bool, true, false, cond, ℕ, ◌+◌, ◌≤◌, zero, suc, List, [], ◌∷◌, ◌++◌, length, refl, ap, sym, ◌∙◌, arith, append_assoc, length-append}
 use Rattle.qm_base.specs.Search.{Front, Piece, Final, Found, after_front, found_after, joined, Grows}
+
+module _ {X A R : Type 0} (step : R → X → Found A R) (none : R) where
+  -- a choice grows where both sides do
+  pub cond-grows : (b : Bool) (n : ℕ) (x : X) (f1 f2 g1 g2 : Front A R) → Grows step none n x f1 g1 → Grows step none n x f2 g2 → Grows step none n x (cond b f1 f2) (cond b g1 g2)
+  cond-grows true n x f1 f2 g1 g2 h1 h2 = h1
+  cond-grows false n x f1 f2 g1 g2 h1 h2 = h2
 
 module _ {X A R : Type 0} (front : X → List X → Front A R) (none : R) (step : R → X → Found A R) where
   found-empty : (b : List X) → found_after front none (length b) b ≡ record { answers = []; rest = none }

@@ -1,6 +1,8 @@
+pub mod Bytes
 pub mod Calls
 pub mod Faults
 pub mod Histories
+pub mod Names
 pub mod Numerals
 pub mod Prefixes
 pub mod Reserving

@@ -10,7 +10,8 @@ fn has_leading_zero(text: &[u8]) -> bool
     text.len() > 1 && text[0] == b'0'
 }
 
-fn are_digits(text: &[u8]) -> bool
+/// Whether each byte is one of `0` to `9`.
+pub fn are_digits(text: &[u8]) -> bool
     ensures { result ≡ list_all is_ascii_digit text.now }
 {
     text.iter().all(|byte| (*byte).is_ascii_digit())

@@ -7,6 +7,3 @@ pub mod mode;
 
 pub use greetings::{greeting, version};
 pub use mode::{Lane, Mode, bound};
-
-#[cfg(test)]
-mod tests;

@@ -2,14 +2,13 @@
 use Rattle.std.proofs.Common.{◌≡◌, ℕ, ◌+◌, ◌<◌, Bool, true, false, cond, List, [], ◌∷◌, ◌++◌, length, Option, Some, None, Result, Ok, Err, position, refl, ap, sym, subst, arith, length-append}
 use Rattle.std.specs.Option.{option_or}
 use Rattle.qm_base.specs.Search.{Piece, Final, Found, after_front, joined, Grows}
-use Rattle.qm_base.proofs.SearchLemmas.{found_after-more}
+use Rattle.qm_base.proofs.SearchLemmas.{cond-grows, found_after-more}
 use Rattle.qm_frame.specs.declared.step.FrameFault.{FrameFault}
 use Rattle.qm_frame.specs.declared.step.FrameFault.TheVariants.{LexError}
 use Rattle.qm_frame.specs.Bytes.{is_space, is_closer, is_opener, is_reset}
 use Rattle.qm_frame.specs.Messages.{is_open, is_message, fault_of}
 use Rattle.qm_frame.specs.Framing.{NextFrame, Residue, Between, Inside, Skipping, skipped_to, after_recovery, closed_by, first_closed, front_of, framing_of, frames_of, residue_of}
-use Rattle.qm_frame.specs.Steps.{nothing, step}
-use Rattle.qm_frame.proofs.Growth.{cond-grows}
+use Rattle.qm_frame.specs.Machine.{nothing, step}
 use Rattle.qm_frame.proofs.Positions.{position-more, position-below}
 
 abbrev Next : ℕ → ℕ → NextFrame → NextFrame → Type 0

@@ -8,7 +8,7 @@ use Rattle.qm_frame.specs.declared.piece.LastPiece.{LastPiece}
 use Rattle.qm_frame.specs.declared.piece.LastPiece.TheVariants.{Whole, Number, Word, Str, Escape, Broken}
 use Rattle.qm_frame.specs.Bytes.{is_single, is_opener, is_closer, begins_number, in_number, is_letter, is_quote, is_barred}
 use Rattle.qm_frame.specs.Pieces.{pieces, level_of, is_broken}
-use Rattle.qm_frame.specs.Moves.{begun, moved, hides, depth_after}
+use Rattle.qm_frame.specs.Machine.{begun, moved, hides, depth_after}
 use Rattle.qm_frame.proofs.PieceLemmas.{pieces-more}
 
 no-answers : (b : Bool) (f g : Found ℕ LastPiece) → f.answers ≡ [] → g.answers ≡ [] → (cond b f g).answers ≡ []

@@ -1,10 +1,7 @@
 mod FramingLemmas
-pub mod Growth
 mod Levels
 mod Opens
-mod OneMore
 mod PieceLemmas
 pub mod Positions
 mod Rows
-mod Unfolded
 mod Texts

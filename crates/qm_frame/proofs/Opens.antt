@@ -14,8 +14,7 @@ use Rattle.qm_frame.specs.declared.judging.Judged.TheVariants.{Taken, Ends, Wron
 use Rattle.qm_frame.specs.declared.judging.State.{State}
 use Rattle.qm_frame.specs.Pieces.{pieces, scans, level_of, is_broken}
 use Rattle.qm_frame.specs.Messages.{begins_open, is_level_open, each_prefix, is_open, is_message, fault_of}
-use Rattle.qm_frame.specs.Moves.{moved, depth_after}
-use Rattle.qm_frame.specs.States.{state_of, IsWithin, judged}
+use Rattle.qm_frame.specs.Machine.{moved, depth_after, state_of, IsWithin, judged}
 use Rattle.qm_frame.proofs.PieceLemmas.{pieces-more}
 use Rattle.qm_frame.proofs.Levels.{level_of-more, depth_after-broken}
 

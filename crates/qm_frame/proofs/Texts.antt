@@ -11,11 +11,9 @@ use Rattle.qm_frame.specs.declared.judging.Judged.{Judged}
 use Rattle.qm_frame.specs.declared.judging.Judged.TheVariants.{Taken, Ends, Wrong}
 use Rattle.qm_frame.specs.declared.judging.State.{State}
 use Rattle.qm_frame.specs.Bytes.{is_opener, is_barred, is_reset}
-use Rattle.qm_frame.specs.Moves.{is_plain}
 use Rattle.qm_frame.specs.Messages.{is_open}
 use Rattle.qm_frame.specs.Framing.{Between, Inside, Skipping}
-use Rattle.qm_frame.specs.States.{state_of, judged, is_run, IsWithin}
-use Rattle.qm_frame.specs.Steps.{nothing, step}
+use Rattle.qm_frame.specs.Machine.{is_plain, state_of, judged, is_run, IsWithin, nothing, step}
 use Rattle.qm_frame.proofs.Opens.{is_open-within, Judges, judged-judges}
 
 -- text is what a framing holds, and now the same as contracts see it

@@ -1,10 +1,7 @@
 -- Sorts of bytes in a JSON text (RFC 8259, sections 2, 6 and 7).
 -- Strings may also stand in single quotes (this project's own rule).
 use Rattle.std.specs.Prelude.{ℕ, ◌==◌, nat_lt, nat_le, Bool, not, ◌&&◌, ◌||◌}
-
--- space, tab, CR and LF
-abbrev pub is_space : ℕ → Bool
-is_space x = x == 32 || x == 9 || x == 13 || x == 10
+pub use Rattle.qm_base.specs.Bytes.{is_space}
 
 -- `{` and `[`
 abbrev pub is_opener : ℕ → Bool

@@ -5,6 +5,8 @@ use Rattle.std.specs.Prelude.{ℕ, ◌+◌, cond, List, [], ◌∷◌, ◌++◌,
 use Rattle.qm_base.specs.Search.{Front, Piece, Final, Found, found_after}
 use Rattle.qm_frame.specs.declared.step.FrameFault.{FrameFault}
 use Rattle.qm_frame.specs.declared.step.FrameFault.TheVariants.{LexError, Unbalanced}
+use Rattle.qm_frame.specs.declared.step.Step.{Step}
+use Rattle.qm_frame.specs.declared.step.Step.TheVariants.{More, Frame, Bad}
 use Rattle.qm_frame.specs.Bytes.{is_space, is_opener, is_closer, is_reset}
 use Rattle.qm_frame.specs.Messages.{is_open, is_message, fault_of}
 
@@ -62,3 +64,14 @@ frames_of bytes = (framing_of bytes).answers
 -- what is left unfinished
 unfoldable pub residue_of : List ℕ → Residue
 residue_of bytes = (framing_of bytes).rest
+
+-- all bytes given to a framer so far, and the message that the last of them completed, or nothing
+pub record Framed : Type 0 where
+  pub given : List ℕ
+  pub message : List ℕ
+
+-- the frames that an answer adds, with the message that it completes
+abbrev pub answered : Step → List ℕ → List (Result (List ℕ) FrameFault)
+answered More message = []
+answered Frame message = Ok message ∷ []
+answered (Bad fault) message = Err fault ∷ []

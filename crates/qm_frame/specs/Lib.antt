@@ -1,10 +1,5 @@
 pub mod Bytes
-pub mod Framed
 pub mod Framing
+pub mod Machine
 pub mod Messages
-pub mod Moves
 pub mod Pieces
-pub mod Ended
-pub mod Splits
-pub mod States
-pub mod Steps

@@ -1,12 +1,7 @@
 ghost use Rattle.std.specs.Prelude.{◌≡◌};
-ghost use Rattle.qm_frame.specs.Bytes.{is_space as space, is_opener as opener, is_closer as closer, is_single as single, is_digit as digit, begins_number as number_begins, in_number as number_has, is_letter as letter, is_quote as quote, is_barred as barred, is_reset as reset};
+ghost use Rattle.qm_frame.specs.Bytes.{is_opener as opener, is_closer as closer, is_single as single, is_digit as digit, begins_number as number_begins, in_number as number_has, is_letter as letter, is_quote as quote, is_barred as barred, is_reset as reset};
 
-/// Whether the byte is white space: space, tab, CR or LF (RFC 8259, section 2).
-pub fn is_space(byte: u8) -> bool
-    ensures { result ≡ space byte }
-{
-    byte == b' ' || byte == b'\t' || byte == b'\r' || byte == b'\n'
-}
+pub use qm_base::is_space;
 
 /// Whether the byte is an opening bracket.
 pub fn is_opener(byte: u8) -> bool

@@ -1,5 +1,5 @@
 ghost use Rattle.std.specs.Prelude.{◌≡◌};
-ghost use Rattle.qm_frame.specs.States.{judged, is_run, IsWithin};
+ghost use Rattle.qm_frame.specs.Machine.{judged, is_run, IsWithin};
 
 use crate::piece::{LastPiece, depth_after, is_broken, is_plain, next};
 use crate::step::{FrameFault, MAX_DEPTH, MAX_LENGTH};

@@ -6,15 +6,7 @@ pub mod framer;
 mod judging;
 mod open_text;
 mod piece;
-mod splitter;
 pub mod step;
 
 pub use framer::Framer;
 pub use step::{FrameFault, MAX_DEPTH, MAX_LENGTH, Step};
-
-#[cfg(test)]
-mod searching;
-#[cfg(test)]
-mod slow_framer;
-#[cfg(test)]
-mod tests;

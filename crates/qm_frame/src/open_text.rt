@@ -1,7 +1,7 @@
 ghost use Rattle.std.specs.Prelude.{◌≡◌, ◌≤◌, ◌<◌, true, [], ◌∷◌, ◌++◌, length, IfOk, vec_len, vec_capacity};
 ghost use Rattle.qm_frame.specs.Bytes.{is_opener as opener};
 ghost use Rattle.qm_frame.specs.Framing.{Inside};
-ghost use Rattle.qm_frame.specs.Steps.{step, stepped, split_by};
+ghost use Rattle.qm_frame.specs.Machine.{step, stepped, split_by};
 ghost use Rattle.qm_frame.specs.Messages.{is_open};
 
 use crate::judging::{Judged, State, judge, lengthens};
@@ -34,7 +34,7 @@ pub struct OpenText {
 
 impl Model for OpenText {
     ghost use Rattle.std.specs.Prelude.{List, ℕ, vec_capacity};
-    ghost use Rattle.qm_frame.specs.States.{IsKnown};
+    ghost use Rattle.qm_frame.specs.Machine.{IsKnown};
 
     ghost Value = { List ℕ };
 

@@ -1,6 +1,6 @@
 ghost use Rattle.std.specs.Prelude.{◌≡◌, ◌≤◌};
 ghost use Rattle.qm_frame.specs.Pieces.{is_broken as broken};
-ghost use Rattle.qm_frame.specs.Moves.{begun, moved, is_plain as plain, hides as hiding, depth_after as depth_of};
+ghost use Rattle.qm_frame.specs.Machine.{begun, moved, is_plain as plain, hides as hiding, depth_after as depth_of};
 
 use crate::bytes::{
     begins_number, in_number, is_barred, is_closer, is_letter, is_opener, is_quote, is_single,

@@ -1,3 +1,5 @@
+ghost use Rattle.std.specs.Prelude.{◌≡◌};
+
 /// How many bytes a message may have.
 pub const MAX_LENGTH: usize = 1_048_576;
 
@@ -27,3 +29,9 @@ pub enum Step {
     /// A fault.
     Bad(FrameFault),
 }
+
+/// The limits, as numbers.
+pub fn limits_are_these()
+    ensures length { MAX_LENGTH ≡ 1048576 }
+    ensures depth { MAX_DEPTH ≡ 128 }
+{}

@@ -11,6 +11,3 @@ pub mod value;
 
 pub use members::{MemberFault, Members, has_member};
 pub use value::{Json, Member};
-
-#[cfg(test)]
-mod tests;

@@ -6,6 +6,3 @@ pub mod sink;
 
 pub use memory::MemorySink;
 pub use sink::{Sink, SinkFailed};
-
-#[cfg(test)]
-mod tests;

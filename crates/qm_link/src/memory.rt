@@ -1,4 +1,4 @@
-ghost use Rattle.std.specs.Prelude.{◌≡◌, [], IsErr, true};
+ghost use Rattle.std.specs.Prelude.{◌≡◌, [], OnErr, IsErr, true};
 ghost use Rattle.qm_base.specs.Faults.{Puts, Counts};
 ghost use Rattle.qm_base.specs.Calls.{fails_next, next_call};
 
@@ -52,10 +52,12 @@ impl Sink for MemorySink {
 
     ghost faults = { λ s. s.faults };
 
-    /// A call that is to fail takes nothing; another fails only for want of memory.
+    /// A call that fails takes nothing. One that is to fail fails; another fails only for want of
+    /// memory.
     fn put(&mut self, piece: &[u8]) -> Result<(), SinkFailed>
         ensures bytes { Puts (Some self.old.taken) piece.now result (Some self.new.taken) }
         ensures cause { Counts self.old.faults self.new.faults result }
+        ensures nothing { OnErr result (self.new.taken ≡ self.old.taken) }
         ensures listed { fails_next self.old.calls self.old.failing ≡ true → IsErr result }
         ensures counted { self.new.calls ≡ next_call self.old.calls }
         ensures same { self.new.failing ≡ self.old.failing }

@@ -11,7 +11,6 @@ pub mod Holds
 pub mod LexemeLaws
 pub mod Lexing
 pub mod LiteralLemmas
-pub mod NameLemmas
 pub mod Nested
 pub mod NumberBytes
 pub mod Numbered

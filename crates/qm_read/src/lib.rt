@@ -5,7 +5,6 @@ pub mod fault;
 mod lexer;
 mod literals;
 mod named_members;
-mod names;
 mod reader;
 mod reading;
 mod spans;

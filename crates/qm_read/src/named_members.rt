@@ -1,10 +1,9 @@
 ghost use Rattle.std.specs.Prelude.{◌≡◌, ◌≤◌, [], ◌∷◌, ◌++◌, length, IsSome, OnOk, IfOk};
 ghost use Rattle.std.specs.Option.{option_map};
 ghost use Rattle.qm_json.specs.Members.{has_name};
-ghost use Rattle.qm_read.specs.Names.{AddsName, AreNamesOf};
+ghost use Rattle.qm_read.specs.Names.{AreNamesOf};
 
-use crate::names::NameTable;
-use qm_base::{NoMemory, Text};
+use qm_base::{NameTable, NoMemory, Text};
 use qm_json::{Json, Member, has_member};
 use sqlite_items::Items;
 use std::alloc::Global;
@@ -75,7 +74,7 @@ fn table_for(
 }
 
 /// The table of the members and one more of a name, where it is wanted.
-#[tactic(auto, using(crate::proofs::NameLemmas::names_more))]
+#[tactic(auto, using(qm_base::proofs::NameLemmas::names_more))]
 fn with_name(
     alloc: Global,
     names: Option<Box<NameTable>>,

@@ -19,6 +19,6 @@ loop-i-preserved c =
     let left : length c.from-rest.result.now ≡ length c.args.text.now - c.loop-i.i = ap length c.from-rest.ensures ∙ length-drop c.loop-i.i c.args.text.now in
     let some : 0 < length c.from-rest.result.now = omega arith in
     record {
-      within = omega (arith, c.in-Ok.ensures.within, c.more-length.ensures);
-      lexed = next_piece _ c.args.text.now c.from-rest.result.now c.loop-i.tokens c.keep.new.tokens c.loop-i.i c.more-length.result c.loop-i.spot c.past_all-next.result c.in-Ok.piece c.from-rest.ensures some (c.in-Ok.ensures.value (λ e. cc)) c.more-length.ensures c.past_all-next.ensures c.in-Ok-keep.ensures c.loop-i.invariant.lexed;
+      within = omega (arith, c.in_ok-piece.ensures.within, c.more-length.ensures);
+      lexed = next_piece _ c.args.text.now c.from-rest.result.now c.loop-i.tokens c.keep.new.tokens c.loop-i.i c.more-length.result c.loop-i.spot c.past_all-next.result c.in_ok-piece.piece c.from-rest.ensures some (c.in_ok-piece.ensures.value (λ e. cc)) c.more-length.ensures c.past_all-next.ensures c.in_ok-keep.ensures c.loop-i.invariant.lexed;
     }

@@ -1,0 +1,11 @@
+//! Cases of texts, values and framing, over public calls alone.
+#![tactic(auto)]
+
+#[cfg(test)]
+mod base;
+#[cfg(test)]
+mod framing;
+#[cfg(test)]
+mod printing;
+#[cfg(test)]
+mod sinks;

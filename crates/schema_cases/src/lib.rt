@@ -1,0 +1,9 @@
+//! Cases of schemas' texts, over public calls alone.
+#![tactic(auto)]
+
+#[cfg(test)]
+mod lexing;
+#[cfg(test)]
+mod nesting;
+#[cfg(test)]
+mod parsing;
