@@ -2,6 +2,7 @@
 use Rattle.std.specs.Prelude.{◌≡◌, ◌<◌, ◌≤◌, ◌+◌, ◌⊎◌, ◌++◌, ℕ, Bool, true, false, cond, List, length, slice_index_or, [], ◌∷◌, Option, Some, None, is_some}
 use Rattle.std.specs.List.{list_any}
 use Rattle.std.specs.Str.{bytes_eq}
+use Rattle.qm_base.specs.Names.{is_named}
 use Rattle.qapi_types.specs.Chains.{IsInside, Refers, Leads}
 
 -- how often a name stands in a list
@@ -38,7 +39,7 @@ AreApart names = (name : List ℕ) → times name names ≤ 1
 
 -- the name is among those given
 abbrev pub stands : List ℕ → List (List ℕ) → Bool
-stands name names = list_any (bytes_eq name) names
+stands name names = is_named names name
 
 -- the first name that stands among those seen, or a second time
 abbrev pub again : List (List ℕ) → List (List ℕ) → Option (List ℕ)

@@ -1,7 +1,7 @@
 -- Looking names up.
 use Rattle.std.specs.Prelude.{ℕ, List, [], ◌∷◌, ◌++◌, map, Option, cond, position}
-use Rattle.std.specs.List.{list_any}
 use Rattle.std.specs.Str.{bytes_eq}
+use Rattle.qm_base.specs.Names.{is_named}
 use Rattle.qapi_types.specs.declared.kind.Kind.{Kind}
 use Rattle.qapi_types.specs.declared.kind.Kind.TheVariants as kinds
 use Rattle.qapi_types.specs.declared.parts.CommandDef.{CommandDef}
@@ -22,7 +22,7 @@ event_names p = map (λ (e : EventDef). e.name) p.events
 -- The rest serves private functions.
 
 abbrev pub with_name : List (List ℕ) → List ℕ → List (List ℕ)
-with_name names name = cond (list_any (bytes_eq name) names) names (names ++ name ∷ [])
+with_name names name = cond (is_named names name) names (names ++ name ∷ [])
 
 -- the names that a type has: of its members or its values
 abbrev pub names_in : Kind → List (List ℕ)

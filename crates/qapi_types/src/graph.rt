@@ -14,10 +14,7 @@ fn mark(marks: &mut Vec<bool>, pending: &mut Vec<u32>, number: u32) -> Result<()
         (spread_of marks.new.items pending.new.items)) }
 {
     if !marks[number as usize] {
-        match pending.push(number) {
-            Ok(()) => {}
-            Err(_) => return Err(NoMemory),
-        }
+        pending.push(number)?;
         marks[number as usize] = true;
     }
     Ok(())
@@ -39,10 +36,8 @@ fn mark_each(marks: &mut Vec<bool>, pending: &mut Vec<u32>, numbers: &[u32]) -> 
 fn no_marks(alloc: Global, length: usize) -> Result<Vec<bool>, NoMemory>
     ensures { IfOk result (λ marks. marks.items ≡ replicate length false) }
 {
-    match vec![in alloc; false; length] {
-        Ok(marks) => Ok(marks),
-        Err(_) => Err(NoMemory),
-    }
+    let marks = vec![in alloc; false; length]?;
+    Ok(marks)
 }
 
 /// What a thing refers to.
@@ -89,10 +84,7 @@ pub fn branch_graph(alloc: Global, kinds: &[Kind]) -> Result<Vec<TypeList>, NoMe
     let mut graph = Vec::new(alloc);
     for kind in kinds {
         let row = row(alloc, kind)?;
-        match graph.push(row) {
-            Ok(()) => {}
-            Err(_) => return Err(NoMemory),
-        }
+        graph.push(row)?;
     }
     Ok(graph)
 }

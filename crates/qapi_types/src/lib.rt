@@ -3,18 +3,18 @@
 #![tactic(auto)]
 
 pub mod choices;
-pub mod goodness;
+mod goodness;
 pub mod graph;
 pub mod kind;
 pub mod lookups;
 pub mod names;
 pub mod parts;
-pub mod places;
-pub mod ranges;
+mod places;
+mod ranges;
 pub mod schema;
-pub mod sealing;
-pub mod tables;
-pub mod unions;
+mod sealing;
+mod tables;
+mod unions;
 
 pub use choices::{TypeFaults, faults_of};
 pub use goodness::parts_good;
@@ -23,5 +23,6 @@ pub use kind::{
     Branch, BranchList, JsonKind, Kind, KindList, MemberDef, MemberList, Names, ObjectDef, TypeList,
     ValueDef, ValueList, Whole,
 };
-pub use schema::Schema;
+pub use names::{NameSet, distinct_names};
 pub use parts::{ArgType, CommandDef, CommandList, EventDef, EventList, Parts};
+pub use schema::Schema;

@@ -7,7 +7,7 @@ use crate::kind::Kind;
 use crate::lookups::kind_at;
 use crate::parts::{CommandDef, EventDef, Parts};
 use crate::sealing::{command_table, event_table, tables_of};
-use crate::tables::NameTable;
+use crate::tables::NameIndex;
 use qm_base::NoMemory;
 use std::alloc::Global;
 use std::marker::Model;
@@ -17,9 +17,9 @@ use std::marker::Model;
 #[derive(Drop)]
 pub struct Schema {
     parts: Parts,
-    commands: NameTable,
-    events: NameTable,
-    tables: Vec<NameTable>,
+    commands: NameIndex,
+    events: NameIndex,
+    tables: Vec<NameIndex>,
 }
 
 impl Model for Schema {

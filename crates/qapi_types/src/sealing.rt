@@ -7,12 +7,12 @@ ghost use Rattle.qapi_types.specs.Sets.{IsNamable};
 use crate::kind::Kind;
 use crate::names::{names_of_commands, names_of_events, names_of_members, names_of_values};
 use crate::parts::Parts;
-use crate::tables::{NameTable, table_of};
+use crate::tables::{NameIndex, table_of};
 use qm_base::{GrowingList, NoMemory};
 use std::alloc::Global;
 
 /// The names of the commands.
-pub fn command_table(alloc: Global, parts: &Parts) -> Result<NameTable, NoMemory>
+pub fn command_table(alloc: Global, parts: &Parts) -> Result<NameIndex, NoMemory>
     requires { IsGood parts.now }
     ensures { IfOk result (λ table. table ≡ command_names parts.now) }
 {
@@ -21,7 +21,7 @@ pub fn command_table(alloc: Global, parts: &Parts) -> Result<NameTable, NoMemory
 }
 
 /// The names of the events.
-pub fn event_table(alloc: Global, parts: &Parts) -> Result<NameTable, NoMemory>
+pub fn event_table(alloc: Global, parts: &Parts) -> Result<NameIndex, NoMemory>
     requires { IsGood parts.now }
     ensures { IfOk result (λ table. table ≡ event_names parts.now) }
 {
@@ -40,7 +40,7 @@ fn names_of<'a>(alloc: Global, kind: &'a Kind) -> Result<GrowingList<&'a [u8]>, 
     }
 }
 
-fn kind_table(alloc: Global, kind: &Kind) -> Result<NameTable, NoMemory>
+fn kind_table(alloc: Global, kind: &Kind) -> Result<NameIndex, NoMemory>
     requires { IsNamable kind.now }
     ensures { IfOk result (λ table. table ≡ names_in kind.now) }
 {
@@ -48,23 +48,20 @@ fn kind_table(alloc: Global, kind: &Kind) -> Result<NameTable, NoMemory>
     table_of(alloc, names.as_slice())
 }
 
-fn kind_tables(alloc: Global, kinds: &[Kind]) -> Result<Vec<NameTable>, NoMemory>
+fn kind_tables(alloc: Global, kinds: &[Kind]) -> Result<Vec<NameIndex>, NoMemory>
     requires { All IsNamable kinds.now }
     ensures { IfOk result (λ tables. tables.items ≡ map names_in kinds.now) }
 {
     let mut tables = Vec::new(alloc);
     for kind in kinds {
         let table = kind_table(alloc, kind)?;
-        match tables.push(table) {
-            Ok(()) => {}
-            Err(_) => return Err(NoMemory),
-        }
+        tables.push(table)?;
     }
     Ok(tables)
 }
 
 /// The names that each type has.
-pub fn tables_of(alloc: Global, parts: &Parts) -> Result<Vec<NameTable>, NoMemory>
+pub fn tables_of(alloc: Global, parts: &Parts) -> Result<Vec<NameIndex>, NoMemory>
     requires { IsGood parts.now }
     ensures { IfOk result (λ tables. tables.items ≡ map names_in parts.now.kinds) }
 {

@@ -9,11 +9,11 @@ use std::marker::Model;
 
 /// Names in order, in which the place of each is found without a walk.
 #[derive(Drop)]
-pub struct NameTable {
+pub struct NameIndex {
     names: IndexSet<Vec<u8>>,
 }
 
-impl Model for NameTable {
+impl Model for NameIndex {
     ghost use Rattle.std.specs.Prelude.{ℕ, List, map, length, ◌<◌, ◌^◌};
 
     ghost Value = { List (List ℕ) };
@@ -23,12 +23,12 @@ impl Model for NameTable {
     ghost invariant = { λ t. length (map (λ k. k.items) t.names.keys) < 2 ^ 32 };
 }
 
-impl NameTable {
+impl NameIndex {
     /// No names. It takes no memory.
-    fn new(alloc: Global) -> NameTable
+    fn new(alloc: Global) -> NameIndex
         ensures { result ≡ [] }
     {
-        NameTable {
+        NameIndex {
             names: IndexSet::new(alloc),
         }
     }
@@ -60,12 +60,12 @@ impl NameTable {
 }
 
 /// The table of names that differ.
-pub fn table_of(alloc: Global, names: &[&[u8]]) -> Result<NameTable, NoMemory>
+pub fn table_of(alloc: Global, names: &[&[u8]]) -> Result<NameIndex, NoMemory>
     requires apart { AreApart (map (λ k. k.now) names.now) }
     requires few { length names.now < 2 ^ 32 }
     ensures { IfOk result (λ table. table ≡ map (λ k. k.now) names.now) }
 {
-    let mut table = NameTable::new(alloc);
+    let mut table = NameIndex::new(alloc);
     for name in names {
         table.add(alloc, *name)?;
     }

@@ -1,6 +1,6 @@
 use Rattle.std.proofs.Common.{ap, ◌∙◌}
 use Rattle.qapi_types.specs.Choices.{stands}
-use Rattle.qapi_types.proofs.NameLemmas.{found}
+use Rattle.qm_base.proofs.NameLemmas.{found}
 use Rattle.qapi_types.proofs.names.NameSet.has.Goals as goal
 
 pub returns : goal.returns

@@ -1,6 +1,6 @@
 use Rattle.qapi_types.proofs.TableLaws.{named, of_ok, of_err}
-use Rattle.qapi_types.proofs.tables.NameTable.add.Goals as goal
-use Rattle.qapi_types.proofs.tables.NameTable.add.Goals.{in-Ok-insert, in-Err}
+use Rattle.qapi_types.proofs.tables.NameIndex.add.Goals as goal
+use Rattle.qapi_types.proofs.tables.NameIndex.add.Goals.{in-Ok-insert, in-Err}
 
 pub returns : goal.returns
 returns c = elim c.match-insert.branch [
