@@ -141,10 +141,10 @@ pub on : (graph : List (List ℕ)) (from turns a : ℕ) (marks : List Bool) (all
 on graph from turns a marks all rest row new s e r t = record {
   search = on_from graph from a marks all rest row new s.search e r t;
   room =
-    let v : length new.pending + marks_in marks ≡ length rest + marks_in new.marks = t.even in
-    let l : length all ≡ length rest + 1 = ap length e ∙ length-append rest (a ∷ []) in
-    let h : turns + length all ≤ marks_in marks = s.room in
-    omega (arith, v, l, h);
+      let v : length new.pending + marks_in marks ≡ length rest + marks_in new.marks = t.even in
+      let l : length all ≡ length rest + 1 = ap length e ∙ length-append rest (a ∷ []) in
+      let h : turns + length all ≤ marks_in marks = s.room in
+      omega (arith, v, l, h);
 }
 
 -- after as many turns as there are things nothing is left to be followed

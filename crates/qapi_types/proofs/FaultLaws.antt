@@ -68,8 +68,7 @@ led : (table : List Kind) (a : ℕ) (set : Option (List (List ℕ))) (marks : Li
 led table a None marks reach s = ((λ _. inl (again-of _ s)), (λ _. tt))
 led table a (Some set) marks reach s =
     let here : List (List ℕ) = names_of (map member_names table) a in
-    let same : (b : ℕ) → has_member_in set (kind_of table b) ≡ shares (names_of (map member_names table) b) here = λ b. member-in set here table b s.1 in
-    (
+    let same : (b : ℕ) → has_member_in set (kind_of table b) ≡ shares (names_of (map member_names table) b) here = λ b. member-in set here table b s.1 in (
       (λ m. inr (m.0, reach.leads m.0 m.1, shares-flip (names_of (map member_names table) m.0) here (sym (same m.0) ∙ m.2))),
       (λ f. elim f [
         | inl h ↦ absurd (of-again _ h s.0)

@@ -83,10 +83,12 @@ value_twice values branches i d fresh l v f e =
     let x : ℕ = (get_or branches i d).value in
     let some : list_any (λ (b : Branch). nat_eq x b.value) (take i branches) ≡ true = sym (v.holds x) ∙ present (sorted.contains nat_cmp values x) (sym f ∙ e) in
     let a = Any-from_list_any (λ (b : Branch). nat_eq x b.value) (take i branches) some in
-    let k : a.0 < i = short branches i a.0 a.2 in
-    ((λ h. cc), (λ all. absurd (all a.0 i d k l (
-      ap (λ (b : Branch). b.value) (sym (get_or-take i branches a.0 d k) ∙ get_or_default (take i branches) a.0 d a.1 a.2 ∙ a.3) ∙ sym ((Decides-eqb x a.1.value).0 a.4)
-    ))))
+    let k : a.0 < i = short branches i a.0 a.2 in (
+      (λ h. cc),
+      (λ all. absurd (all a.0 i d k l (
+          ap (λ (b : Branch). b.value) (sym (get_or-take i branches a.0 d k) ∙ get_or_default (take i branches) a.0 d a.1 a.2 ∙ a.3) ∙ sym ((Decides-eqb x a.1.value).0 a.4)
+          ))),
+    )
 
 -- ---- alternatives of different kinds
 

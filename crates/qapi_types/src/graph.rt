@@ -61,7 +61,11 @@ pub fn reached(alloc: Global, graph: &[TypeList], from: usize) -> Result<Vec<boo
         let Some(number) = pending.pop() else {
             return Ok(marks);
         };
-        mark_each(&mut marks, &mut pending, references_of(graph, number as usize))?;
+        mark_each(
+            &mut marks,
+            &mut pending,
+            references_of(graph, number as usize),
+        )?;
     }
     Ok(marks)
 }

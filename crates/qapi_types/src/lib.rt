@@ -20,8 +20,8 @@ pub use choices::{TypeFaults, faults_of};
 pub use goodness::parts_good;
 pub use graph::{branch_graph, reached, references_of};
 pub use kind::{
-    Branch, BranchList, JsonKind, Kind, KindList, MemberDef, MemberList, Names, ObjectDef, TypeList,
-    ValueDef, ValueList, Whole,
+    Branch, BranchList, JsonKind, Kind, KindList, MemberDef, MemberList, Names, ObjectDef,
+    TypeList, ValueDef, ValueList, Whole,
 };
 pub use names::{NameSet, distinct_names};
 pub use parts::{ArgType, CommandDef, CommandList, EventDef, EventList, Parts};

@@ -83,10 +83,7 @@ pub fn names_of_members<'a>(
 }
 
 /// The names of a type's values.
-pub fn names_of_values<'a>(
-    alloc: Global,
-    kind: &'a Kind,
-) -> Result<GrowingList<&'a [u8]>, NoMemory>
+pub fn names_of_values<'a>(alloc: Global, kind: &'a Kind) -> Result<GrowingList<&'a [u8]>, NoMemory>
     ensures { IfOk result (λ names. map (λ k. k.now) names ≡ value_names kind.now) }
 {
     let mut names = GrowingList::new(alloc);

@@ -7,3 +7,5 @@ mod lexing;
 mod nesting;
 #[cfg(test)]
 mod parsing;
+#[cfg(test)]
+mod sealing;
