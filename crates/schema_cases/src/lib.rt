@@ -9,3 +9,5 @@ mod loading;
 mod nesting;
 #[cfg(test)]
 mod parsing;
+#[cfg(test)]
+mod sealing;

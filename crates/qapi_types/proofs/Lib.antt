@@ -1,0 +1,10 @@
+pub mod ChainLaws
+pub mod ChoiceLaws
+pub mod DealLaws
+pub mod FaultLaws
+pub mod GoodLaws
+pub mod NameLemmas
+pub mod PairLaws
+pub mod SealLaws
+pub mod SetLaws
+pub mod TableLaws

@@ -1,0 +1,13 @@
+use Rattle.std.proofs.Common.{arith}
+use Rattle.qapi_types.specs.Goodness.{HasApartValues}
+use Rattle.qapi_types.proofs.PairLaws.{refuted, one_more, looked}
+use Rattle.qapi_types.proofs.goodness.have_apart_values.Goals as goal
+
+pub returns-then-not-branch : goal.returns-then-not-branch
+returns-then-not-branch c = refuted HasApartValues c.args.kinds.now c.loop-kind.kind-index c.kind-item.result _ c.in_ok-has_apart_values.field-0 (omega arith) c.kind-item.is c.in_ok-has_apart_values.ensures c.if-not-branch.true
+
+pub loop-kind-preserved : goal.loop-kind-preserved
+loop-kind-preserved c = one_more HasApartValues c.args.kinds.now c.loop-kind.kind-index c.kind-item.result _ c.in_ok-has_apart_values.field-0 (omega arith) c.kind-item.is c.in_ok-has_apart_values.ensures c.if-not-branch.false c.loop-kind.invariant
+
+pub returns : goal.returns
+returns c = looked HasApartValues c.args.kinds.now c.loop-kind.kind-index (omega (arith, c.loop-kind-test.false)) c.loop-kind.invariant

@@ -1,0 +1,6 @@
+pub mod Chains
+pub mod Choices
+pub mod Goodness
+pub mod Lookups
+pub mod Sets
+pub mod Types
