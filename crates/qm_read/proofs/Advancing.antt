@@ -6,7 +6,6 @@ use Rattle.qm_read.specs.declared.fault.JsonFault.{JsonFault}
 use Rattle.qm_read.specs.declared.fault.JsonFault.TheVariants.{Memory}
 use Rattle.qm_read.specs.Progress.{Advances, reading_from}
 use Rattle.qm_read.specs.Walks.{walk}
-use Rattle.qm_json.specs.declared.value.Json.{Json}
 use Rattle.qm_read.specs.declared.token.Lexeme.{Lexeme}
 use Rattle.qm_read.specs.declared.token.Token.{Token}
 use Rattle.qm_read.specs.Faults.{run, on, ended, reading_of}

@@ -10,7 +10,7 @@ use Rattle.std.specs.Str.{continuation_len, is_utf8, IsUtf8, bytes_eq}
 use Rattle.qm_read.specs.declared.fault.JsonFault.{JsonFault}
 use Rattle.qm_read.specs.declared.strings.Part.{Part}
 use Rattle.qm_read.specs.Escapes.{is_hex, hex_of, unicode_of, pair_of, unicode_escape, escaped_byte, short_escape, escape}
-use Rattle.qm_read.specs.Strings.{character, part, text_in, more_in, followed_by, after_part, text_after, text_of, takes_next, ends_string, string_length}
+use Rattle.qm_read.specs.Strings.{part, text_in, more_in, followed_by, after_part, text_after, text_of, takes_next, ends_string, string_length}
 use Rattle.qm_read.specs.Texts.{IsWithin}
 use Rattle.std.specs.List.{prefix_len}
 use Rattle.std.specs.Str.Parse.{signed_digits_value}
@@ -19,7 +19,7 @@ use Rattle.qm_json.specs.Numbers.{is_literal, is_whole_part, after_minus, is_who
 use Rattle.qm_read.specs.declared.token.Lexeme.{Lexeme}
 use Rattle.qm_read.specs.declared.token.Token.{Token}
 use Rattle.qm_read.specs.declared.token.Token.TheVariants as tokens
-use Rattle.qm_read.specs.Tokens.{Placed, literal_token, number_token, word_token, mark_token, string_token, stop_at, run_lexeme, string_lexeme, lexeme_of, placed, tokens_here, tokens_of}
+use Rattle.qm_read.specs.Tokens.{Placed, literal_token, number_token, word_token, mark_token, string_token, stop_at, string_lexeme, lexeme_of, placed, tokens_here, tokens_of}
 use Rattle.qm_read.specs.Walks.{walk}
 
 below_hex : (x : ℕ) → is_hex x ≡ true → digit_value x < 16

@@ -1,5 +1,5 @@
 -- What a piece at the front of a text leads a reader to.
-use Rattle.std.proofs.Common.{◌≡◌, ℕ, ◌+◌, Bool, true, false, not, cond, ◌||◌, suc, List, [], ◌∷◌, ◌++◌, drop, length, min, IsUtf8, codes, None, Result, Ok, refl, ap, sym, ◌∙◌, subst, append_assoc, length-append, arith}
+use Rattle.std.proofs.Common.{◌≡◌, ℕ, ◌+◌, Bool, true, false, not, cond, ◌||◌, suc, List, [], ◌∷◌, ◌++◌, drop, length, min, IsUtf8, codes, Result, Ok, refl, ap, sym, ◌∙◌, subst, append_assoc, length-append, arith}
 use Rattle.std.specs.List.{list_all, flat_map, prefix_len}
 use Rattle.std.proofs.lemmas.Bool.{and_parts, or_parts, not-true, cond-true, cond-false}
 use Rattle.std.proofs.Math.Seq.{take-append_seam, drop-append_seam, drop-append-add}
@@ -18,7 +18,7 @@ use Rattle.qm_read.specs.Stacks.{State}
 use Rattle.qm_read.specs.Stacks as stacks
 use Rattle.qm_read.specs.Steps.{step}
 use Rattle.qm_read.specs.Strings.{takes_next, ends_string, string_length, text_of}
-use Rattle.qm_read.specs.Tokens.{Placed, at, number_token, word_token, run_lexeme, string_lexeme, with_later, tokens_here, tokens_from}
+use Rattle.qm_read.specs.Tokens.{Placed, at, number_token, word_token, run_lexeme, with_later, tokens_here, tokens_from}
 use Rattle.qm_read.specs.Walks.{walk}
 use Rattle.qm_read.proofs.NumberBytes.{IsRun}
 use Rattle.qm_read.proofs.PrintedStrings.{points-inside, points-read, stays}

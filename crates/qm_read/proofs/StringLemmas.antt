@@ -1,16 +1,12 @@
 -- What the bytes of a string stand for, part by part; bytes that stand for themselves.
-use Rattle.std.proofs.Common.{◌≡◌, ◌≢◌, ℕ, ◌+◌, ◌-◌, ◌<◌, ◌≤◌, Bool, true, false, cond, ◌&&◌, ◌||◌, ◌==◌, zero, suc, List, [], ◌∷◌, ◌++◌, drop, length, Option, Some, None, Result, Ok, Err, IfOk, refl, ap, sym, ◌∙◌, subst, arith, append_assoc, append-nil, slice_index, take, get_or, min, drop-cons}
+use Rattle.std.proofs.Common.{◌≡◌, ℕ, ◌+◌, ◌<◌, ◌≤◌, Bool, true, false, cond, ◌==◌, suc, List, [], ◌∷◌, ◌++◌, drop, length, Some, None, Result, Ok, Err, refl, ap, sym, ◌∙◌, arith, append_assoc, slice_index, take, get_or, min, drop-cons}
 use Rattle.std.proofs.lemmas.Bool.Decides.{nat_tests}
-use Rattle.std.proofs.lemmas.List.{length-drop, drop-drop}
-use Rattle.std.proofs.Math.ListN.{drop_of_length-le}
 use Rattle.std.proofs.lemmas.Str.{is_utf8-from_IsUtf8, IsUtf8-from_ascii}
 use Rattle.std.proofs.lemmas.Str.Ascii.{IsAscii-cons, IsAscii-nil}
-use Rattle.std.specs.Char.Utf16.{is_high_surrogate, is_low_surrogate, surrogate_pair_char}
 use Rattle.std.specs.Str.{continuation_len, is_utf8}
 use Rattle.qm_read.specs.declared.fault.JsonFault.{JsonFault}
-use Rattle.qm_read.specs.declared.fault.JsonFault.TheVariants.{BadEscape, Memory}
 use Rattle.qm_read.specs.declared.strings.Part.{Part}
-use Rattle.qm_read.specs.declared.strings.Part.TheVariants.{Same, Char}
+use Rattle.qm_read.specs.declared.strings.Part.TheVariants.{Same}
 use Rattle.qm_read.specs.Progress.{Advances, decoded_from}
 use Rattle.qm_read.specs.Strings.{character, part, text_in, more_in, followed_by, after_part, text_here, text_after, text_of, takes_next, ends_string, string_length}
 use Rattle.qm_read.proofs.Advancing.{passed}

@@ -1,6 +1,6 @@
 -- Strings: where they end, and what their bytes stand for (RFC 8259, section 7; single quotes and
 -- the escape `\'` are this project's own rule).
-use Rattle.std.specs.Prelude.{ℕ, ◌+◌, ◌==◌, nat_lt, Bool, not, cond, ◌&&◌, ◌||◌, zero, suc, List, [], ◌∷◌, ◌++◌, take, length, Option, Some, None, option_map, Result, Ok, Err, encode_utf8}
+use Rattle.std.specs.Prelude.{ℕ, ◌+◌, ◌==◌, nat_lt, Bool, not, cond, ◌&&◌, ◌||◌, List, [], ◌∷◌, ◌++◌, take, length, Result, Ok, Err, encode_utf8}
 use Rattle.std.specs.Str.{continuation_len, is_utf8}
 use Rattle.qm_read.specs.declared.fault.JsonFault.{JsonFault}
 use Rattle.qm_read.specs.declared.fault.JsonFault.TheVariants.{BadUtf8}
