@@ -1,5 +1,5 @@
 -- Decimal numbers without a sign or a leading zero (this project's own rule).
-use Rattle.std.specs.Prelude.{ℕ, ◌^◌, ◌==◌, nat_lt, Bool, false, cond, ◌&&◌, List, length, slice_index, Option, Some, None}
+use Rattle.std.specs.Prelude.{ℕ, ◌^◌, ◌==◌, nat_lt, Bool, not, cond, ◌&&◌, List, length, slice_index, Option, Some, None}
 use Rattle.std.specs.List.{list_all}
 use Rattle.std.specs.Char.{is_ascii_digit}
 use Rattle.std.specs.Str.Parse.{digits_value}
@@ -10,7 +10,7 @@ has_leading_zero text = nat_lt 1 (length text) && (slice_index text 0 == 48)
 
 -- digits alone, at least one, without a leading zero
 abbrev pub is_numeral : List ℕ → Bool
-is_numeral text = cond (length text == 0) false (cond (has_leading_zero text) false (list_all is_ascii_digit text))
+is_numeral text = nat_lt 0 (length text) && not (has_leading_zero text) && list_all is_ascii_digit text
 
 -- the number, where it is below 2^64
 abbrev pub number_of : List ℕ → Option ℕ

@@ -2,10 +2,10 @@ ghost use Rattle.std.specs.Prelude.{◌≡◌, ◌<◌, ◌≤◌, IfSome, IfNon
 ghost use Rattle.std.specs.List.{list_all};
 ghost use Rattle.std.specs.Char.{is_ascii_digit, digit_value};
 ghost use Rattle.std.specs.Str.Parse.{digits_value};
-ghost use Rattle.qm_base.specs.Numerals.{has_leading_zero as has_leading_zero_of, is_numeral as is_numeral_of, number_of};
+ghost use Rattle.qm_base.specs.Numerals;
 
 fn has_leading_zero(text: &[u8]) -> bool
-    ensures { result ≡ has_leading_zero_of text.now }
+    ensures { result ≡ Numerals.has_leading_zero text.now }
 {
     text.len() > 1 && text[0] == b'0'
 }
@@ -18,15 +18,9 @@ pub fn are_digits(text: &[u8]) -> bool
 }
 
 fn is_numeral(text: &[u8]) -> bool
-    ensures { result ≡ is_numeral_of text.now }
+    ensures { result ≡ Numerals.is_numeral text.now }
 {
-    if text.len() == 0 {
-        return false;
-    }
-    if has_leading_zero(text) {
-        return false;
-    }
-    are_digits(text)
+    !text.is_empty() && !has_leading_zero(text) && are_digits(text)
 }
 
 fn longer(value: u64, digit: u8) -> Option<u64>
@@ -54,7 +48,7 @@ fn value(digits: &[u8]) -> Option<u64>
 /// The number that decimal digits write; None for any other text, for a leading zero before
 /// another digit, and from 2^64 on.
 pub fn number(text: &[u8]) -> Option<u64>
-    ensures { result ≡ number_of text.now }
+    ensures { result ≡ Numerals.number_of text.now }
 {
     if is_numeral(text) { value(text) } else { None }
 }

@@ -30,10 +30,8 @@ impl<T> ReservedList<T> {
     pub fn new(alloc: Global, places: usize) -> Result<ReservedList<T>, NoMemory>
         ensures { IfOk result (λ list. list ≡ record { items = []; places = places }) }
     {
-        match Vec::with_capacity(alloc, places) {
-            Ok(items) => Ok(ReservedList { items, places }),
-            Err(_) => Err(NoMemory),
-        }
+        let items = Vec::with_capacity(alloc, places)?;
+        Ok(ReservedList { items, places })
     }
 
     /// The items.

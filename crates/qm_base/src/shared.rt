@@ -26,10 +26,8 @@ impl<T: Drop> Shared<T> {
     pub fn new(alloc: Global, value: T) -> Result<Shared<T>, NoMemory>
         ensures { IfOk result (λ shared. shared ≡ value) }
     {
-        match Arc::new(alloc, value) {
-            Ok(inner) => Ok(Shared { inner }),
-            Err(_) => Err(NoMemory),
-        }
+        let inner = Arc::new(alloc, value)?;
+        Ok(Shared { inner })
     }
 
     /// One more owner of the same value. The count of owners has an end, at which this is refused.

@@ -2,19 +2,20 @@ ghost use Rattle.std.specs.Prelude.{◌≡◌, [], ◌∷◌, ◌++◌, length, 
 
 use std::alloc::{AllocError, AllocFailed, Global};
 use std::marker::Model;
+use std::mem;
 
 /// No memory was left.
 #[derive(Clone, Copy, Debug, PartialEq, Eq)]
 pub struct NoMemory;
 
 impl From<AllocError> for NoMemory {
-    fn from(_error: AllocError) -> NoMemory {
+    fn from(_fault: AllocError) -> NoMemory {
         NoMemory
     }
 }
 
 impl<T: Drop> From<AllocFailed<T>> for NoMemory {
-    fn from(_refused: AllocFailed<T>) -> NoMemory {
+    fn from(_fault: AllocFailed<T>) -> NoMemory {
         NoMemory
     }
 }
@@ -47,10 +48,8 @@ impl Text {
     pub fn of(alloc: Global, bytes: &[u8]) -> Result<Text, NoMemory>
         ensures { IfOk result (λ text. text ≡ bytes.now) }
     {
-        match Vec::from_slice(alloc, bytes) {
-            Ok(bytes) => Ok(Text { bytes }),
-            Err(_) => Err(NoMemory),
-        }
+        let bytes = Vec::from_slice(alloc, bytes)?;
+        Ok(Text { bytes })
     }
 
     /// The bytes.
@@ -79,10 +78,8 @@ impl Text {
         ensures ok { OnOk result (self.new ≡ self.old ++ byte ∷ []) }
         ensures err { OnErr result (self.new ≡ self.old) }
     {
-        match self.bytes.push(byte) {
-            Ok(()) => Ok(()),
-            Err(_) => Err(NoMemory),
-        }
+        self.bytes.push(byte)?;
+        Ok(())
     }
 
     /// Appends bytes. An error leaves the text as it was.
@@ -90,9 +87,18 @@ impl Text {
         ensures ok { OnOk result (self.new ≡ self.old ++ bytes.now) }
         ensures err { OnErr result (self.new ≡ self.old) }
     {
-        match self.bytes.extend_from_slice(bytes) {
-            Ok(()) => Ok(()),
-            Err(_) => Err(NoMemory),
+        self.bytes.extend_from_slice(bytes)?;
+        Ok(())
+    }
+
+    /// Moves all bytes out. It takes no memory.
+    pub fn take_all(&mut self) -> Text
+        ensures bytes { result ≡ self.old }
+        ensures empty { self.new ≡ [] }
+    {
+        let alloc = *self.bytes.allocator();
+        Text {
+            bytes: mem::replace(&mut self.bytes, Vec::new(alloc)),
         }
     }
 

@@ -36,10 +36,8 @@ fn capabilities(alloc: Global) -> Result<Json, NoMemory>
 {
     let mut items = Items::new(alloc);
     let oob = Json::string(alloc, b"oob")?;
-    match items.push(oob) {
-        Ok(()) => Ok(Json::Arr(items)),
-        Err(_) => Err(NoMemory),
-    }
+    items.push(oob)?;
+    Ok(Json::Arr(items))
 }
 
 fn offered(alloc: Global) -> Result<Json, NoMemory>

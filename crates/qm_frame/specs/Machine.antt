@@ -53,9 +53,7 @@ abbrev pub hides : LastPiece → Bool
 hides (Str quote) = true
 hides (Escape quote) = true
 hides Broken = true
-hides Whole = false
-hides Number = false
-hides Word = false
+hides last = false
 
 -- the level with one more byte
 abbrev pub depth_after : LastPiece → ℕ → ℕ → ℕ
@@ -86,11 +84,7 @@ judged s n x =
 -- the text ends in an unclosed string that the byte x lengthens, and may have one more byte
 abbrev pub is_run : LastPiece → ℕ → ℕ → Bool
 is_run (Str quote) n x = nat_lt n MAX_LENGTH && is_plain quote x
-is_run (Escape quote) n x = false
-is_run Whole n x = false
-is_run Number n x = false
-is_run Word n x = false
-is_run Broken n x = false
+is_run last n x = false
 
 -- there is room for a message, and what is known of the text is right while it is open
 pub record IsKnown (capacity : ℕ) (text : List ℕ) (state : State) : Type 0 where
@@ -137,7 +131,5 @@ split_of modes.Complete text = record { rest = Between; message = text }
 
 -- inside a message its text is open
 abbrev pub IsKept : Mode → List ℕ → Type 0
-IsKept modes.Between text = Unit {0}
 IsKept modes.Inside text = is_open text ≡ true
-IsKept modes.Skipping text = Unit {0}
-IsKept modes.Complete text = Unit {0}
+IsKept mode text = Unit {0}

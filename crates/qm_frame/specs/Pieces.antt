@@ -40,11 +40,7 @@ pieces text = found_after piece Whole 0 text
 
 abbrev pub is_broken : LastPiece → Bool
 is_broken Broken = true
-is_broken Whole = false
-is_broken Number = false
-is_broken Word = false
-is_broken (Str quote) = false
-is_broken (Escape quote) = false
+is_broken last = false
 
 -- the text splits into pieces, the last of which may be an unclosed string
 abbrev pub scans : List ℕ → Bool

@@ -1,6 +1,6 @@
 ghost use Rattle.std.specs.Prelude.{◌≡◌, ◌≢◌, [], ◌∷◌, ◌++◌, IfOk};
 ghost use Rattle.qm_frame.specs.Framing.{Between, frames_of, answered};
-ghost use Rattle.qm_frame.specs.Machine.{mode_after as mode_of, step, stepped};
+ghost use Rattle.qm_frame.specs.Machine;
 
 use crate::bytes::{is_closer, is_opener, is_reset, is_space};
 use crate::open_text::OpenText;
@@ -24,7 +24,7 @@ pub enum Mode {
 
 /// Where a byte leaves a splitter, by its answer.
 fn mode_after(step: Step, byte: u8) -> Mode
-    ensures { result ≡ mode_of step byte }
+    ensures { result ≡ Machine.mode_after step byte }
 {
     match step {
         Step::More => Mode::Inside,
@@ -79,7 +79,7 @@ impl Splitter {
 
     /// Takes the next byte.
     fn push(&mut self, byte: u8) -> Step
-        ensures step { step self.old.rest byte ≡ stepped result self.new }
+        ensures step { Machine.step self.old.rest byte ≡ Machine.stepped result self.new }
         ensures message { result ≢ Step.Frame → self.new.message ≡ [] }
     {
         match self.mode {
@@ -100,7 +100,7 @@ impl Splitter {
 
     fn push_between(&mut self, byte: u8) -> Step
         requires { self.old.rest ≡ Between }
-        ensures step { step Between byte ≡ stepped result self.new }
+        ensures step { Machine.step Between byte ≡ Machine.stepped result self.new }
         ensures message { self.new.message ≡ [] }
     {
         if is_space(byte) {

@@ -24,8 +24,7 @@ pub fn lengthens(last: LastPiece, length: usize, byte: u8) -> bool
 {
     match last {
         LastPiece::Str(quote) => length < MAX_LENGTH && is_plain(quote, byte),
-        LastPiece::Whole | LastPiece::Number | LastPiece::Word => false,
-        LastPiece::Escape(_) | LastPiece::Broken => false,
+        _ => false,
     }
 }
 

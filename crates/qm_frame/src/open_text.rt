@@ -1,5 +1,5 @@
 ghost use Rattle.std.specs.Prelude.{◌≡◌, ◌≤◌, ◌<◌, true, [], ◌∷◌, ◌++◌, length, IfOk, vec_len, vec_capacity};
-ghost use Rattle.qm_frame.specs.Bytes.{is_opener as opener};
+ghost use Rattle.qm_frame.specs.Bytes.{is_opener};
 ghost use Rattle.qm_frame.specs.Framing.{Inside};
 ghost use Rattle.qm_frame.specs.Machine.{step, stepped, split_by};
 ghost use Rattle.qm_frame.specs.Messages.{is_open};
@@ -49,13 +49,11 @@ impl OpenText {
     pub fn new(alloc: Global) -> Result<OpenText, NoMemory>
         ensures { IfOk result (λ text. text ≡ []) }
     {
-        match Vec::with_capacity(alloc, MAX_LENGTH) {
-            Ok(bytes) => Ok(OpenText {
-                bytes,
-                state: START,
-            }),
-            Err(_) => Err(NoMemory),
-        }
+        let bytes = Vec::with_capacity(alloc, MAX_LENGTH)?;
+        Ok(OpenText {
+            bytes,
+            state: START,
+        })
     }
 
     /// The bytes.
@@ -74,7 +72,7 @@ impl OpenText {
     /// Begins a message.
     #[tactic(auto, using(crate::proofs::Texts::opener_open))]
     pub fn begin(&mut self, byte: u8)
-        requires { opener byte ≡ true }
+        requires { is_opener byte ≡ true }
         ensures text { self.new ≡ byte ∷ [] }
         ensures open { is_open self.new ≡ true }
     {

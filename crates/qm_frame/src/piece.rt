@@ -1,6 +1,6 @@
 ghost use Rattle.std.specs.Prelude.{◌≡◌, ◌≤◌};
-ghost use Rattle.qm_frame.specs.Pieces.{is_broken as broken};
-ghost use Rattle.qm_frame.specs.Machine.{begun, moved, is_plain as plain, hides as hiding, depth_after as depth_of};
+ghost use Rattle.qm_frame.specs.Pieces;
+ghost use Rattle.qm_frame.specs.Machine;
 
 use crate::bytes::{
     begins_number, in_number, is_barred, is_closer, is_letter, is_opener, is_quote, is_single,
@@ -25,7 +25,7 @@ pub enum LastPiece {
 }
 
 fn begin(byte: u8) -> LastPiece
-    ensures { result ≡ (begun byte).rest }
+    ensures { result ≡ (Machine.begun byte).rest }
 {
     if is_single(byte) {
         LastPiece::Whole
@@ -41,7 +41,7 @@ fn begin(byte: u8) -> LastPiece
 }
 
 fn next_in_string(quote: u8, byte: u8) -> LastPiece
-    ensures { result ≡ (moved (LastPiece.Str quote) byte).rest }
+    ensures { result ≡ (Machine.moved (LastPiece.Str quote) byte).rest }
 {
     if is_barred(byte) {
         LastPiece::Broken
@@ -56,14 +56,14 @@ fn next_in_string(quote: u8, byte: u8) -> LastPiece
 
 /// Whether the byte is one more of a string with this quote, and is no backslash.
 pub fn is_plain(quote: u8, byte: u8) -> bool
-    ensures { result ≡ plain quote byte }
+    ensures { result ≡ Machine.is_plain quote byte }
 {
     !is_barred(byte) && byte != quote && byte != b'\\'
 }
 
 /// The piece that a text ends in with one more byte.
 pub fn next(last: LastPiece, byte: u8) -> LastPiece
-    ensures { result ≡ (moved last byte).rest }
+    ensures { result ≡ (Machine.moved last byte).rest }
 {
     match last {
         LastPiece::Whole => begin(byte),
@@ -95,30 +95,26 @@ pub fn next(last: LastPiece, byte: u8) -> LastPiece
 
 /// Whether a bracket after this piece does not count.
 fn hides(last: LastPiece) -> bool
-    ensures { result ≡ hiding last }
+    ensures { result ≡ Machine.hides last }
 {
-    match last {
-        LastPiece::Str(_) | LastPiece::Escape(_) | LastPiece::Broken => true,
-        LastPiece::Whole | LastPiece::Number | LastPiece::Word => false,
-    }
+    matches!(
+        last,
+        LastPiece::Str(_) | LastPiece::Escape(_) | LastPiece::Broken
+    )
 }
 
 /// Whether the text does not scan.
 pub fn is_broken(last: LastPiece) -> bool
-    ensures { result ≡ broken last }
+    ensures { result ≡ Pieces.is_broken last }
 {
-    match last {
-        LastPiece::Broken => true,
-        LastPiece::Whole | LastPiece::Number | LastPiece::Word => false,
-        LastPiece::Str(_) | LastPiece::Escape(_) => false,
-    }
+    matches!(last, LastPiece::Broken)
 }
 
 /// The level with one more byte.
 pub fn depth_after(last: LastPiece, depth: usize, byte: u8) -> usize
     requires low { 1 ≤ depth }
     requires high { depth ≤ MAX_DEPTH }
-    ensures { result ≡ depth_of last depth byte }
+    ensures { result ≡ Machine.depth_after last depth byte }
 {
     if hides(last) {
         depth

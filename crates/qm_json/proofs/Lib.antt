@@ -2,8 +2,6 @@ pub mod Chunks
 pub mod CleanLaws
 pub mod Distinct
 pub mod Inductions
-pub mod Joined
-pub mod Measures
 pub mod NestingLaws
 mod NumberExamples
 pub mod Plain

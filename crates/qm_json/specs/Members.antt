@@ -17,13 +17,8 @@ abbrev pub value_in : List Member → List ℕ → Option Json
 value_in members name = option_map (λ m. m.value) (find (λ m. bytes_eq m.name name) members)
 
 abbrev pub layer_members : Json-F Json Member → List Member
-layer_members layer.Json-F.Null = []
-layer_members (layer.Json-F.Bool b) = []
-layer_members (layer.Json-F.Int n) = []
-layer_members (layer.Json-F.Num text) = []
-layer_members (layer.Json-F.Str bytes) = []
-layer_members (layer.Json-F.Arr items) = []
 layer_members (layer.Json-F.Obj members) = members
+layer_members value = []
 
 -- the members of an object; any other value has none
 abbrev pub members_of : Json → List Member

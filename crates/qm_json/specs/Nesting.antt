@@ -13,13 +13,9 @@ deepest (depth ∷ depths) = max depth (deepest depths)
 
 -- one layer, with the depth of each inner value in its place
 abbrev pub depth_layer : Json-F ℕ ℕ → ℕ
-depth_layer layer.Json-F.Null = 0
-depth_layer (layer.Json-F.Bool b) = 0
-depth_layer (layer.Json-F.Int n) = 0
-depth_layer (layer.Json-F.Num text) = 0
-depth_layer (layer.Json-F.Str bytes) = 0
 depth_layer (layer.Json-F.Arr items) = deepest items + 1
 depth_layer (layer.Json-F.Obj members) = deepest members + 1
+depth_layer value = 0
 
 abbrev pub depth_member_layer : Member-F ℕ ℕ → ℕ
 depth_member_layer m = m.value

@@ -35,10 +35,7 @@ fn copy_items(alloc: Global, items: &[Json]) -> Result<Items<Json>, NoMemory>
 {
     let mut copied = Items::new(alloc);
     for item in items {
-        let one = copy_value(alloc, item)?;
-        if copied.push(one).is_err() {
-            return Err(NoMemory);
-        }
+        copied.push(copy_value(alloc, item)?)?;
     }
     Ok(copied)
 }
@@ -58,10 +55,7 @@ fn copy_members(alloc: Global, members: &[Member]) -> Result<Items<Member>, NoMe
 {
     let mut copied = Items::new(alloc);
     for member in members {
-        let one = copy_member(alloc, member)?;
-        if copied.push(one).is_err() {
-            return Err(NoMemory);
-        }
+        copied.push(copy_member(alloc, member)?)?;
     }
     Ok(copied)
 }

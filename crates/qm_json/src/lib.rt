@@ -3,8 +3,8 @@
 
 mod copies;
 mod equality;
-mod lengths;
 mod members;
+mod output;
 mod printing;
 mod strings;
 pub mod value;

@@ -91,10 +91,8 @@ impl Members {
         ensures err { OnErr result (self.new ≡ self.old) }
     {
         let name = Text::of(alloc, name)?;
-        match self.items.push(Member { name, value }) {
-            Ok(()) => Ok(()),
-            Err(_) => Err(NoMemory),
-        }
+        self.items.push(Member { name, value })?;
+        Ok(())
     }
 
     /// The object of these members.

@@ -1,8 +1,8 @@
-ghost use Rattle.std.specs.Prelude.{◌≡◌, ◌++◌, codes, map, OnOk, OnErr};
+ghost use Rattle.std.specs.Prelude.{◌≡◌, ◌++◌, [], length, map};
 ghost use Rattle.qm_base.specs.Prefixes.{Writes};
-ghost use Rattle.qm_json.specs.Strings.{quoted};
-ghost use Rattle.qm_json.specs.Printing.{printed, printed_member, joined, placed, array_text, object_text};
+ghost use Rattle.qm_json.specs.Printing.{printed, printed_member, joined, placed, array_text, object_text, capped};
 
+use crate::output::{Count, Growing, Output};
 use crate::strings::write_quoted;
 use crate::value::{Json, Member};
 use itoa::Buffer;
@@ -15,105 +15,92 @@ impl Json {
     pub fn write_text(&self, out: &mut Text) -> Result<(), NoMemory>
         ensures { Writes out.old (printed self.now) result out.new }
     {
-        write_value(self, out)
+        let mut growing = Growing::new(out.take_all());
+        write_value(self, &mut growing);
+        growing.finish(out)
+    }
+
+    /// How many bytes the printed text has, or 2^64-1 where it has more.
+    pub fn written_length(&self) -> u64
+        ensures { result ≡ capped (length (printed self.now)) }
+    {
+        let mut count = Count::new();
+        write_value(self, &mut count);
+        count.count()
     }
 }
 
 #[cycle(write)]
-fn write_value(value: &Json, out: &mut Text) -> Result<(), NoMemory>
-    ensures { Writes out.old (printed value.now) result out.new }
+fn write_value<O: Output>(value: &Json, out: &mut O)
+    ensures { O.given out.new ≡ O.given out.old ++ printed value.now }
 {
     match value {
-        Json::Null => out.extend(b"null"),
-        Json::Bool(true) => out.extend(b"true"),
-        Json::Bool(false) => out.extend(b"false"),
+        Json::Null => out.put(b"null"),
+        Json::Bool(true) => out.put(b"true"),
+        Json::Bool(false) => out.put(b"false"),
         Json::Int(n) => {
             let mut buffer = Buffer::new();
-            out.extend(buffer.format(*n).as_bytes())
+            out.put(buffer.format(*n).as_bytes());
         }
-        Json::Num(text) => out.extend(text.as_slice()),
+        Json::Num(text) => out.put(text.as_slice()),
         Json::Str(bytes) => write_quoted(bytes.as_slice(), out),
         Json::Arr(items) => write_array(items.as_slice(), out),
         Json::Obj(members) => write_object(members.as_slice(), out),
     }
 }
 
-fn write_comma(out: &mut Text) -> Result<(), NoMemory>
-    ensures ok { OnOk result (out.new ≡ out.old ++ codes ", ") }
-    ensures err { OnErr result (out.new ≡ out.old) }
-{
-    out.extend(b", ")
-}
-
-#[cycle(write)]
-fn write_item(later: bool, item: &Json, out: &mut Text) -> Result<(), NoMemory>
-    ensures { Writes out.old (placed later (printed item.now)) result out.new }
+/// What stands before an item: nothing before the first.
+fn write_comma<O: Output>(later: bool, out: &mut O)
+    ensures { O.given out.new ≡ O.given out.old ++ placed later [] }
 {
     if later {
-        write_comma(out)?;
+        out.put(b", ");
     }
-    write_value(item, out)
 }
 
 #[cycle(write)]
-fn write_items(items: &[Json], out: &mut Text) -> Result<(), NoMemory>
-    ensures { Writes out.old (joined (map printed items.now)) result out.new }
+fn write_items<O: Output>(items: &[Json], out: &mut O)
+    ensures { O.given out.new ≡ O.given out.old ++ joined (map printed items.now) }
 {
     for (i, item) in items.iter().enumerate() {
-        write_item(i > 0, item, out)?;
+        write_comma(i > 0, out);
+        write_value(item, out);
     }
-    Ok(())
 }
 
 #[cycle(write)]
-fn write_array(items: &[Json], out: &mut Text) -> Result<(), NoMemory>
-    ensures { Writes out.old (array_text (map printed items.now)) result out.new }
+fn write_array<O: Output>(items: &[Json], out: &mut O)
+    ensures { O.given out.new ≡ O.given out.old ++ array_text (map printed items.now) }
 {
-    out.push(b'[')?;
-    write_items(items, out)?;
-    out.push(b']')
-}
-
-fn write_name(name: &[u8], out: &mut Text) -> Result<(), NoMemory>
-    ensures { Writes out.old (quoted name.now ++ codes ": ") result out.new }
-{
-    write_quoted(name, out)?;
-    out.extend(b": ")
+    out.put(b"[");
+    write_items(items, out);
+    out.put(b"]");
 }
 
 #[cycle(write)]
-fn write_member(member: &Member, out: &mut Text) -> Result<(), NoMemory>
-    ensures { Writes out.old (printed_member member.now) result out.new }
+fn write_member<O: Output>(member: &Member, out: &mut O)
+    ensures { O.given out.new ≡ O.given out.old ++ printed_member member.now }
 {
-    write_name(member.name.as_slice(), out)?;
-    write_value(&member.value, out)
+    write_quoted(member.name.as_slice(), out);
+    out.put(b": ");
+    write_value(&member.value, out);
 }
 
 #[cycle(write)]
-fn write_next_member(later: bool, member: &Member, out: &mut Text) -> Result<(), NoMemory>
-    ensures { Writes out.old (placed later (printed_member member.now)) result out.new }
-{
-    if later {
-        write_comma(out)?;
-    }
-    write_member(member, out)
-}
-
-#[cycle(write)]
-fn write_members(members: &[Member], out: &mut Text) -> Result<(), NoMemory>
-    ensures { Writes out.old (joined (map printed_member members.now)) result out.new }
+fn write_members<O: Output>(members: &[Member], out: &mut O)
+    ensures { O.given out.new ≡ O.given out.old ++ joined (map printed_member members.now) }
 {
     for (i, member) in members.iter().enumerate() {
-        write_next_member(i > 0, member, out)?;
+        write_comma(i > 0, out);
+        write_member(member, out);
     }
-    Ok(())
 }
 
 #[cycle(write)]
-fn write_object(members: &[Member], out: &mut Text) -> Result<(), NoMemory>
-    ensures { Writes out.old (object_text (map printed_member members.now)) result out.new }
+fn write_object<O: Output>(members: &[Member], out: &mut O)
+    ensures { O.given out.new ≡ O.given out.old ++ object_text (map printed_member members.now) }
 {
-    out.push(b'{')?;
-    write_members(members, out)?;
-    out.push(b'}')
+    out.put(b"{");
+    write_members(members, out);
+    out.put(b"}");
 }

@@ -5,4 +5,6 @@ use Rattle.qm_json.proofs.Texts.{Remains}
 use Rattle.qm_json.proofs.strings.write_chars.Given as goal
 
 abbrev pub invariant-loop-c : goal.invariant-loop-c
-invariant-loop-c l = Remains l.fn.out (escapes (chars l.fn.text)) l.out (escapes (chars (chars_rest l.c-iterator))) × IsUtf8 (chars_rest l.c-iterator)
+invariant-loop-c g l =
+    Remains (g.O.Output.given l.fn.out) (escapes (chars l.fn.text)) (g.O.Output.given l.out) (escapes (chars (chars_rest l.c-iterator)))
+    × IsUtf8 (chars_rest l.c-iterator)

@@ -1,18 +1,13 @@
 use Rattle.std.proofs.Common.{not, ap}
 use Rattle.qm_json.specs.Strings.{chunk_escapes}
 use Rattle.qm_json.proofs.Chunks.{chunk_of, chunk_left, no_points}
-use Rattle.qm_json.proofs.Texts.{remains_less, remains_none, remains_stops}
+use Rattle.qm_json.proofs.Texts.{remains_less, remains_none}
 use Rattle.qm_json.proofs.strings.write_chunks.Goals as goal
 
 pub loop-chunk-preserved : goal.loop-chunk-preserved
-loop-chunk-preserved c =
+loop-chunk-preserved g c =
     let chunk = chunk_of _ _ _ _ _ _ c.valid.ensures c.invalid.ensures c.valid.utf8 c.in-Some.ensures.steps in
-    remains_less (chunk_escapes c.valid.result.now (not c.is_empty.result)) _ _ c.loop-chunk.invariant (chunk_left _ _ _ _ _ chunk (ap not c.is_empty.ensures)) c.in_ok-write_chunk.ensures
-
-pub returns-in_err-write_chunk : goal.returns-in_err-write_chunk
-returns-in_err-write_chunk c =
-    let chunk = chunk_of _ _ _ _ _ _ c.valid.ensures c.invalid.ensures c.valid.utf8 c.in-Some.ensures.steps in
-    remains_stops (chunk_escapes c.valid.result.now (not c.is_empty.result)) _ _ _ c.loop-chunk.invariant (chunk_left _ _ _ _ _ chunk (ap not c.is_empty.ensures)) c.from_residual.ensures.0 c.in_err-write_chunk.ensures
+    remains_less (chunk_escapes c.valid.result.now (not c.is_empty.result)) _ _ c.loop-chunk.invariant (chunk_left _ _ _ _ _ chunk (ap not c.is_empty.ensures)) c.write_chunk.ensures
 
 pub returns : goal.returns
-returns c = remains_none c.loop-chunk.invariant (no_points _ c.in-None.ensures.steps.0)
+returns g c = remains_none c.loop-chunk.invariant (no_points _ c.in-None.ensures.steps.0)

@@ -4,4 +4,5 @@ use Rattle.qm_json.proofs.Texts.{Remains}
 use Rattle.qm_json.proofs.strings.write_chunks.Given as goal
 
 abbrev pub invariant-loop-chunk : goal.invariant-loop-chunk
-invariant-loop-chunk l = Remains l.fn.out (escapes (code_points l.fn.bytes)) l.out (escapes (code_points (utf8_chunks_rest l.chunk-iterator)))
+invariant-loop-chunk g l =
+    Remains (g.O.Output.given l.fn.out) (escapes (code_points l.fn.bytes)) (g.O.Output.given l.out) (escapes (code_points (utf8_chunks_rest l.chunk-iterator)))

@@ -4,4 +4,4 @@ use Rattle.qm_json.specs.Strings.{unit_escape}
 use Rattle.qm_json.proofs.strings.write_units.Given as goal
 
 abbrev pub invariant-loop-unit : goal.invariant-loop-unit
-invariant-loop-unit l = l.out ≡ l.fn.out ++ flat_map unit_escape (take l.unit-index l.units)
+invariant-loop-unit g l = g.O.Output.given l.out ≡ g.O.Output.given l.fn.out ++ flat_map unit_escape (take l.unit-index l.units)
