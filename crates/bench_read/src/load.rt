@@ -11,10 +11,8 @@ pub enum Shape {
     Small,
     /// The array of `Large`, once.
     One,
-    /// An object of 1 MiB with as many names as fit, the shortest first.
-    Names,
-    /// An array of as many bytes and tokens as `Names`.
-    Values,
+    /// What stands on standard input, once.
+    Given,
 }
 
 impl Shape {
@@ -24,8 +22,7 @@ impl Shape {
             ("large", Shape::Large),
             ("small", Shape::Small),
             ("one", Shape::One),
-            ("names", Shape::Names),
-            ("values", Shape::Values),
+            ("given", Shape::Given),
         ];
         for (known, shape) in shapes {
             if known == name {
@@ -70,44 +67,14 @@ fn requests(
     Ok(block)
 }
 
-/// Appends the name with this number, of one to three bytes from `#` to `[`, in quotes.
-fn name(block: &mut Text, number: u32) -> Result<(), NoMemory> {
-    block.push(b'"')?;
-    if number >= 57 * 58 {
-        block.push(b'#' + ((number / 3249 - 1) % 57) as u8)?;
-    }
-    if number >= 57 {
-        block.push(b'#' + ((number / 57 - 1) % 57) as u8)?;
-    }
-    block.push(b'#' + (number % 57) as u8)?;
-    block.push(b'"')
-}
-
-/// A text of 1 MiB: as many names as fit, each with `between` and 0.
-fn names(alloc: Global, opener: u8, between: u8, closer: u8) -> Result<Text, NoMemory> {
-    let mut block = Text::new(alloc);
-    block.push(opener)?;
-    for number in 0..131_492 {
-        if number > 0 {
-            block.push(b',')?;
-        }
-        name(&mut block, number)?;
-        block.push(between)?;
-        block.push(b'0')?;
-    }
-    block.push(closer)?;
-    Ok(block)
-}
-
 impl Load {
     /// The bytes of a shape.
-    pub fn of(alloc: Global, shape: Shape) -> Result<Load, NoMemory> {
+    pub fn of(alloc: Global, shape: Shape, given: &[u8]) -> Result<Load, NoMemory> {
         let (block, times) = match shape {
             Shape::Large => (requests(alloc, 23_809, b"[", b", ", b"]")?, 20),
             Shape::Small => (requests(alloc, 1000, b"", b"\n", b"\n")?, 1000),
             Shape::One => (requests(alloc, 23_809, b"[", b", ", b"]")?, 1),
-            Shape::Names => (names(alloc, b'{', b':', b'}')?, 1),
-            Shape::Values => (names(alloc, b'[', b',', b']')?, 1),
+            Shape::Given => (Text::of(alloc, given)?, 1),
         };
         Ok(Load { block, times })
     }

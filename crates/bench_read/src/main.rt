@@ -5,12 +5,12 @@ mod load;
 mod work;
 
 use load::{Load, Shape};
-use std::io::Write;
+use std::io::{Read, Write};
 use std::process::ExitCode;
 use std::{env, io};
 use work::{Way, run};
 
-const USAGE: &str = "bench_read [frame|read|print|show large|small|one|names|values]";
+const USAGE: &str = "bench_read [frame|read|print|show large|small|one|given]";
 
 fn gathered(rt: &HostRuntime) -> io::Result<Vec<String>> {
     let mut words = Vec::new(rt.alloc());
@@ -22,7 +22,11 @@ fn gathered(rt: &HostRuntime) -> io::Result<Vec<String>> {
 
 /// Runs one way, or shows the bytes without one. Status 1 is for want of memory.
 fn answer(rt: &HostRuntime, way: Option<Way>, shape: Shape) -> io::Result<ExitCode> {
-    let Ok(load) = Load::of(rt.alloc(), shape) else {
+    let mut given = Vec::new(rt.alloc());
+    if matches!(shape, Shape::Given) {
+        rt.reader().read_to_end(&mut given)?;
+    }
+    let Ok(load) = Load::of(rt.alloc(), shape, given.as_slice()) else {
         return Ok(ExitCode::from(1));
     };
     let Some(way) = way else {

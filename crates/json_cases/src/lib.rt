@@ -9,3 +9,7 @@ mod framing;
 mod printing;
 #[cfg(test)]
 mod sinks;
+#[cfg(test)]
+mod reading;
+#[cfg(test)]
+mod reading_faults;

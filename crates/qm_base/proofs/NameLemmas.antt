@@ -1,5 +1,5 @@
 -- Tables of names.
-use Rattle.std.proofs.Common.{◌≡◌, ℕ, Bool, true, false, ◌||◌, List, [], ◌∷◌, ◌++◌, map, Result, Ok, Err, IfOk, OnOk, refl, ap, sym, ◌∙◌}
+use Rattle.std.proofs.Common.{◌≡◌, ℕ, Bool, true, false, ◌||◌, List, [], ◌∷◌, ◌++◌, map, refl, ap, sym, ◌∙◌}
 use Rattle.std.specs.Bool.{one_answer}
 use Rattle.std.specs.BTreeSet.{insert_key}
 use Rattle.std.specs.Cmp.Lexicographic.{slice_cmp}
@@ -8,7 +8,7 @@ use Rattle.std.specs.declared.cmp.Ordering.{Ordering}
 use Rattle.std.specs.declared.cmp.Ordering.TheVariants.{Less, Equal, Greater}
 use Rattle.std.proofs.lemmas.Map.Text.{is_eq-slice_cmp}
 use Rattle.std.specs.List.{list_any}
-use Rattle.std.specs.Result.{is_ok}
+use Rattle.std.proofs.Math.Bool.{or_assoc, or_comm}
 use Rattle.std.specs.Str.{bytes_eq}
 use Rattle.std.proofs.lemmas.Slice.Eq.{bytes_eq-Decides}
 use Rattle.std.proofs.lemmas.List.Folds.{list_any-append}
@@ -21,26 +21,12 @@ bytes_eq-sym : (a b : List ℕ) → bytes_eq a b ≡ bytes_eq b a
 bytes_eq-sym a b = one_answer (bytes_eq a b) (bytes_eq b a) (bytes_eq-Decides a b) (λ e. sym ((bytes_eq-Decides b a).0 e), λ e. (bytes_eq-Decides b a).1 (sym e))
 
 last_of : (b c : Bool) → (b || (c || false)) ≡ (b || c)
-last_of true c = refl
-last_of false true = refl
-last_of false false = refl
-
-first_or : (k x r : Bool) → (k || (x || r)) ≡ ((x || r) || k)
-first_or true true r = refl
-first_or true false true = refl
-first_or true false false = refl
-first_or false true r = refl
-first_or false false true = refl
-first_or false false false = refl
+last_of b c = ap (λ t. b || t) (or_comm c false)
 
 same_or : (k x r : Bool) → k ≡ x → (x || r) ≡ ((x || r) || k)
 same_or k true r e = refl
 same_or k false true e = refl
 same_or k false false e = sym e
-
-last_or : (k x r more : Bool) → more ≡ (r || k) → (x || more) ≡ ((x || r) || k)
-last_or k true r more e = refl
-last_or k false r more e = e
 
 module _ {K : Type 0} (f : K → List ℕ) where
   abbrev order : K → K → Ordering
@@ -52,26 +38,17 @@ module _ {K : Type 0} (f : K → List ℕ) where
   found name (k ∷ ks) = rw (is_eq-slice_cmp name (f k), found name ks) refl
 
   placed : (other : List ℕ) (o : Ordering) (k x : K) (xs more : List K) → (o ≡ Equal → f k ≡ f x) → is_named (map f more) other ≡ (is_named (map f xs) other || bytes_eq other (f k)) → is_named (map f (match_ordering o (k ∷ x ∷ xs) (x ∷ xs) (x ∷ more))) other ≡ (is_named (map f (x ∷ xs)) other || bytes_eq other (f k))
-  placed other Less k x xs more same rest = first_or (bytes_eq other (f k)) (bytes_eq other (f x)) (is_named (map f xs) other)
+  placed other Less k x xs more same rest = or_comm (bytes_eq other (f k)) (is_named (map f (x ∷ xs)) other)
   placed other Equal k x xs more same rest = same_or (bytes_eq other (f k)) (bytes_eq other (f x)) (is_named (map f xs) other) (ap (bytes_eq other) (same refl))
-  placed other Greater k x xs more same rest = last_or (bytes_eq other (f k)) (bytes_eq other (f x)) (is_named (map f xs) other) (is_named (map f more) other) rest
+  placed other Greater k x xs more same rest = ap (λ b. bytes_eq other (f x) || b) rest ∙ sym (or_assoc (bytes_eq other (f x)) (is_named (map f xs) other) (bytes_eq other (f k)))
 
   pub inserted : (other : List ℕ) (ks : List K) (k : K) → is_named (map f (insert_key order ks k)) other ≡ (is_named (map f ks) other || bytes_eq other (f k))
-  inserted other [] k = first_or (bytes_eq other (f k)) false false
+  inserted other [] k = or_comm (bytes_eq other (f k)) false
   inserted other (x ∷ xs) k = placed other (order k x) k x xs (insert_key order xs k) (λ e. same-bytes (f k) (f x) (sym (is_eq-slice_cmp (f k) (f x)) ∙ ap is_eq e)) (inserted other xs k)
 
   -- a name was inserted, of names seen through f
   pub added : (ks new : List K) (k : K) (old : List (List ℕ)) (name : List ℕ) → map f ks ≡ old → f k ≡ name → new ≡ insert_key order ks k → AddsName old name (map f new)
   added ks new k old name o n e = rw (← o, ← n, e) (λ other. inserted other ks k)
-
--- what is known of an answer that is Ok
-pub of_ok : {A E P : Type 0} (r : Result A E) → is_ok r ≡ true → IfOk r (λ x. P) → P
-of_ok (Ok x) e h = h
-of_ok (Err y) e h = cc
-
-pub on_ok : {P E : Type 0} (r : Result (Unit {0}) E) → (r ≡ Ok tt → P) → OnOk r P
-on_ok (Ok tt) h = h refl
-on_ok (Err y) h = tt
 
 -- a table of the names of items, and the name of one more
 pub names_more : {A : Type 0} (name_of : A → List ℕ) (old new : List (List ℕ)) (items : List A) (x : A) → AreNamesOf name_of old items → AddsName old (name_of x) new → AreNamesOf name_of new (items ++ x ∷ [])

@@ -44,10 +44,9 @@ impl NameTable {
         let Ok(name) = Vec::from_slice(alloc, name) else {
             return Err(NoMemory);
         };
-        if self.names.insert(name).is_ok() {
-            Ok(())
-        } else {
-            Err(NoMemory)
+        match self.names.insert(name) {
+            Ok(_) => Ok(()),
+            Err(_) => Err(NoMemory),
         }
     }
 }

@@ -6,16 +6,15 @@ use Rattle.qm_read.specs.declared.fault.JsonFault.{JsonFault}
 use Rattle.qm_json.specs.declared.value.Json.{Json}
 use Rattle.qm_json.specs.declared.value.Member.{Member}
 use Rattle.qm_read.specs.declared.token.Token.TheVariants as tokens
-use Rattle.qm_read.specs.declared.token.Placed.{Placed}
 use Rattle.qm_read.specs.declared.stack.Open.{Open}
 use Rattle.qm_read.specs.declared.stack.Open.TheVariants.{Top, Arr, Obj}
 use Rattle.qm_read.specs.declared.stack.Expect.{Expect}
-use Rattle.qm_read.specs.declared.stack.Expect.TheVariants.{Value, ValueOrEnd, Name, NameOrEnd, Colon, CommaOrEnd, End}
+use Rattle.qm_read.specs.declared.stack.Expect.TheVariants.{Value, ValueOrEnd, Name, NameOrEnd, CommaOrEnd}
 use Rattle.qm_frame.specs.declared.step.TheConstants.{MAX_DEPTH}
 use Rattle.qm_json.specs.Members.{has_name}
 use Rattle.qm_read.specs.Stacks.{State, begun, takes_value, takes_name, put}
 use Rattle.qm_read.specs.Faults.{run, ended, reading}
-use Rattle.qm_read.specs.Tokens.{at}
+use Rattle.qm_read.specs.Tokens.{Placed, at}
 use Rattle.qm_read.specs.Spelling.{SpellsValue, null, bool, int, num, string, no_items, array, no_members, object, SpellsItems, item, more_items, SpellsMembers, member, more_members}
 
 abbrev pub going : List Open → Expect → State
@@ -29,13 +28,9 @@ may_open : (d : ℕ) (stack : List Open) → Room (suc d) stack → nat_lt (leng
 may_open d stack h = grind (arith, nat_tests, h)
 
 pub not_name : (e : Expect) → takes_value e ≡ true → takes_name e ≡ false
-not_name Value h = refl
-not_name ValueOrEnd h = refl
 not_name Name h = cc
 not_name NameOrEnd h = cc
-not_name Colon h = refl
-not_name CommaOrEnd h = refl
-not_name End h = refl
+not_name _ h = refl
 
 pub opens_array : (d : ℕ) (stack : List Open) (e : Expect) (p : ℕ) (rest : List Placed) → takes_value e ≡ true → Room (suc d) stack → run (going stack e) (at tokens.OpenArray p ∷ rest) ≡ run (going (Arr [] ∷ stack) ValueOrEnd) rest
 opens_array d stack e p rest t h = rw (t, may_open d stack h) refl

@@ -1,79 +1,91 @@
--- What is read, once the lexeme at the front of a text was taken.
-use Rattle.std.proofs.Common.{◌≡◌, ℕ, ◌≢◌, ◌+◌, ◌-◌, ◌<◌, ◌≤◌, List, [], ◌∷◌, ◌++◌, drop, length, Option, Some, None, Result, Ok, Err, refl, ap, sym, ◌∙◌, subst, arith}
+-- Walks over a text, loops that take it part by part, and what is read once its first lexeme was taken.
+use Rattle.std.proofs.Common.{◌≡◌, ◌≢◌, ℕ, ◌+◌, ◌-◌, ◌<◌, ◌≤◌, zero, suc, List, [], ◌∷◌, take, drop, length, Result, Ok, Err, refl, ap, sym, ◌∙◌, arith, slice_index, add-one, ◌++◌, Option, Some, None}
 use Rattle.std.proofs.lemmas.List.{length-drop, drop-drop}
 use Rattle.std.proofs.Math.ListN.{drop_of_length-le}
-use Rattle.qm_json.specs.declared.value.Json.{Json}
 use Rattle.qm_read.specs.declared.fault.JsonFault.{JsonFault}
 use Rattle.qm_read.specs.declared.fault.JsonFault.TheVariants.{Memory}
+use Rattle.qm_read.specs.Progress.{Advances, reading_from}
+use Rattle.qm_read.specs.Walks.{walk}
 use Rattle.qm_read.specs.declared.token.Lexeme.{Lexeme}
-use Rattle.qm_read.specs.declared.token.Placed.{Placed}
 use Rattle.qm_read.specs.declared.token.Token.{Token}
-use Rattle.qm_read.specs.Bytes.{numbered}
 use Rattle.qm_read.specs.Faults.{run, on, ended, reading_of}
-use Rattle.qm_read.specs.Lexemes.{lexeme_of, placed, tokens_from, reading_from, Advances}
 use Rattle.qm_read.specs.Stacks.{State, begun}
 use Rattle.qm_read.specs.Steps.{step}
-use Rattle.qm_read.specs.Tokens.{found, tokens_of}
-use Rattle.qm_read.proofs.LexemeLaws.{Stands, lexeme-stands}
+use Rattle.qm_read.specs.Tokens.{Placed, lexeme_of, placed, with_later, tokens_here, tokens_from, tokens_of}
 
-module _ (s : State) (place : ℕ) (text : List ℕ) (l : Lexeme) (some : 0 < length text) (is : l ≡ lexeme_of place text) where
-  abbrev End : ℕ
-  End = place + length text
+-- what is passed over is left out
+pub passed : {X A : Type 0} (here : ℕ → X → List X → (ℕ → A) → A) (none : A) (k place : ℕ) (rest : List X) → walk here none k place rest ≡ walk here none 0 (place + k) (drop k rest)
+passed here none zero place rest = ap (λ (p : ℕ). walk here none 0 p rest) (omega arith)
+passed here none (suc k) place [] = refl
+passed here none (suc k) place (x ∷ rest) = passed here none k (place + 1) rest ∙ ap (λ (p : ℕ). walk here none 0 p (drop k rest)) (omega arith)
 
-  abbrev After : List Placed
-  After = tokens_from (place + l.length) (drop l.length text) End
+-- the first item of a list, and some of those after it
+pub front_taken : (n : ℕ) (xs : List ℕ) → 0 < length xs → take (n + 1) xs ≡ slice_index xs 0 ∷ take n (drop 1 xs)
+front_taken n [] h = absurd (omega (arith, h))
+front_taken n (x ∷ xs) h = ap (λ (k : ℕ). take k (x ∷ xs)) (add-one n)
 
-  front : (t : List ℕ) → 0 < length t → Stands place (place + length t) t (found (numbered place t)) (lexeme_of place t)
-  front [] h = absurd (omega (arith, h))
-  front (x ∷ rest) h = lexeme-stands place (place + length (x ∷ rest)) x rest refl
+-- what a text comes to by what was made of its front and what is left of it
+module _ {S R : Type 0} (whole : S → ℕ → List ℕ → Result R JsonFault) (answer : Result R JsonFault) (text : List ℕ) where
+  pub record IsLeft (s : S) (place i : ℕ) : Type 0 where
+    pub within : i ≤ length text
+    pub is : whole s place (drop i text) ≡ answer
 
-  stands : Stands place End text (found (numbered place text)) l
-  stands = subst (λ (m : Lexeme). Stands place End text (found (numbered place text)) m) (sym is) (front text some)
+  -- bytes that are taken or refused
+  module _ (s new : S) (place i : ℕ) (rest : List ℕ) (at : rest ≡ drop i text) (left : IsLeft s place i) where
+    here : whole s place rest ≡ answer
+    here = ap (whole s place) at ∙ left.is
 
-  tokens : (token : Option Token) → l.token ≡ token → reading_from s place text End ≡ ended (run s (placed token place ++ After)) End
-  tokens token e = ap (λ (ts : List Placed). ended (run s ts) End) (stands.is ∙ ap (λ (t : Option Token). placed t place ++ After) e)
+    pub still-left : (n next : ℕ) → next ≡ place + n → Advances whole s place rest (Ok n) new → IsLeft new next (i + n)
+    still-left n next e h =
+        let size : length rest ≡ length text - i = ap length at ∙ length-drop i text in
+        let le : n ≤ length rest = h.1 in
+        let start : i ≤ length text = left.within in
+        record {
+          within = omega (arith, le, size, start);
+          is = ap (λ (p : ℕ). whole new p (drop (i + n) text)) e ∙ ap (whole new (place + n)) (sym (drop-drop n i text) ∙ ap (drop n) (sym at)) ∙ sym h.2 ∙ here;
+        }
 
-  -- white space
-  pub none_taken : l.token ≡ None → Advances s place text (Ok l.length) s
-  none_taken e = (stands.some, stands.within, tokens None e)
+    pub refused-here : (fault : JsonFault) → fault ≢ Memory → Advances whole s place rest (Err fault) new → Err fault ≡ answer
+    refused-here fault known h = sym (h known) ∙ here
+
+  -- nothing is left
+  pub at-end : (s : S) (place i : ℕ) → length text ≤ i → IsLeft s place i → whole s place [] ≡ answer
+  at-end s place i h left = ap (whole s place) (sym (drop_of_length-le text h)) ∙ left.is
+
+-- the tokens of a text are that of its first lexeme, and those of what follows it
+later-tokens : (place : ℕ) (text : List ℕ) (l : Lexeme) → 0 < length text → l ≡ lexeme_of place (slice_index text 0) (drop 1 text) → tokens_from place text ≡ placed l.token place ++ tokens_from (place + (1 + l.more)) (drop (1 + l.more) text)
+later-tokens place [] l some is = absurd (omega (arith, some))
+later-tokens place (x ∷ rest) l some is =
+    let one : 1 + l.more ≡ suc l.more = omega arith in
+    let next : place + suc l.more ≡ place + 1 + l.more = omega arith in
+    ap (λ (m : Lexeme). with_later m place (λ k. walk tokens_here [] k (place + 1) rest)) (sym is)
+    ∙ ap (λ (ts : List Placed). placed l.token place ++ ts) (passed tokens_here [] l.more (place + 1) rest ∙ rw (one, next) refl)
+
+module _ (s new : State) (place : ℕ) (text : List ℕ) (l : Lexeme) (some : 0 < length text) (is : l ≡ lexeme_of place (slice_index text 0) (drop 1 text)) (short : l.more < length text) where
+  abbrev Later : List Placed
+  Later = tokens_from (place + (1 + l.more)) (drop (1 + l.more) text)
+
+  tokens : (o : Option Token) → l.token ≡ o → reading_from s place text ≡ ended (run s (placed o place ++ Later)) (place + length text)
+  tokens o e = ap (λ (ts : List Placed). ended (run s ts) (place + length text)) (later-tokens place text l some is ∙ ap (λ (o : Option Token). placed o place ++ Later) e)
+
+  taken : reading_from s place text ≡ ended (run new Later) (place + length text) → Advances reading_from s place text (Ok (1 + l.more)) new
+  taken e =
+      let size : place + length text ≡ place + (1 + l.more) + length (drop (1 + l.more) text) = omega (arith, length-drop (1 + l.more) text, short) in
+      (omega arith, omega (arith, short), e ∙ ap (ended (run new Later)) size)
 
   -- a token that may stand there
-  pub one_taken : (token : Token) (new : State) → l.token ≡ Some token → step s token place ≡ Ok new → Advances s place text (Ok l.length) new
-  one_taken token new e taken =
-      (stands.some, stands.within, tokens (Some token) e ∙ ap (λ (r : Result State JsonFault). ended (on r (λ next. run next After)) End) taken)
+  pub one_taken : (token : Token) → l.token ≡ Some token → step s token place ≡ Ok new → Advances reading_from s place text (Ok (1 + l.more)) new
+  one_taken token e h = taken (tokens (Some token) e ∙ ap (λ (r : Result State JsonFault). ended (on r (λ next. run next Later)) (place + length text)) h)
 
   -- a token that is refused
-  pub one_refused : (token : Token) (fault : JsonFault) → l.token ≡ Some token → step s token place ≡ Err fault → reading_from s place text End ≡ Err fault
-  one_refused token fault e refused =
-      tokens (Some token) e ∙ ap (λ (r : Result State JsonFault). ended (on r (λ next. run next After)) End) refused
+  pub one_refused : (token : Token) (fault : JsonFault) → l.token ≡ Some token → step s token place ≡ Err fault → reading_from s place text ≡ Err fault
+  one_refused token fault e h = tokens (Some token) e ∙ ap (λ (r : Result State JsonFault). ended (on r (λ next. run next Later)) (place + length text)) h
 
--- a text of which the bytes before a place were read
-module _ (text rest : List ℕ) (i : ℕ) (s new : State) (whole : Result Json JsonFault) (at : rest ≡ drop i text) (within : i ≤ length text) (left : reading_from s i (drop i text) (length text) ≡ whole) where
-  size : length rest ≡ length text - i
-  size = ap length at ∙ length-drop i text
-
-  end_is : i + length rest ≡ length text
-  end_is = omega (arith, size, within)
-
-  here : reading_from s i rest (i + length rest) ≡ whole
-  here = ap (λ (l : List ℕ). reading_from s i l (i + length rest)) at ∙ ap (reading_from s i (drop i text)) end_is ∙ left
-
-  pub advanced-within : (m : ℕ) → Advances s i rest (Ok m) new → i + m ≤ length text
-  advanced-within m h = let le : m ≤ length rest = h.1 in omega (arith, le, end_is)
-
-  pub advanced-left : (m : ℕ) → Advances s i rest (Ok m) new → reading_from new (i + m) (drop (i + m) text) (length text) ≡ whole
-  advanced-left m h =
-      ap (λ (l : List ℕ). reading_from new (i + m) l (length text)) (sym (drop-drop m i text) ∙ ap (drop m) (sym at))
-      ∙ ap (reading_from new (i + m) (drop m rest)) (sym end_is) ∙ sym h.2 ∙ here
-
-  pub refused-here : (fault : JsonFault) → fault ≢ Memory → Advances s i rest (Err fault) new → Err fault ≡ whole
-  refused-here fault known h = sym (h known) ∙ here
-
--- the end of the text
-pub at_end : (text : List ℕ) (i : ℕ) (s : State) (r whole : Result Json JsonFault) → length text ≤ i → r ≡ ended (Ok s) (length text) → reading_from s i (drop i text) (length text) ≡ whole → r ≡ whole
-at_end text i s r whole h e left = e ∙ ap (λ (l : List ℕ). reading_from s i l (length text)) (sym (drop_of_length-le text h)) ∙ left
+-- white space
+pub none_taken : (s : State) (place : ℕ) (text : List ℕ) (l : Lexeme) → 0 < length text → l ≡ lexeme_of place (slice_index text 0) (drop 1 text) → l.more < length text → l.token ≡ None → Advances reading_from s place text (Ok (1 + l.more)) s
+none_taken s place text l some is short e = taken s s place text l some is short (tokens s s place text l some is short None e)
 
 -- a text is read from its beginning
-pub from_begin : (text : List ℕ) → reading_from begun 0 text (length text) ≡ reading_of text
+pub from_begin : (text : List ℕ) → reading_from begun 0 text ≡ reading_of text
 unfolding reading_of tokens_of
-from_begin text = refl
+from_begin text = ap (ended (run begun (tokens_from 0 text))) (omega arith)

@@ -8,7 +8,6 @@ use Rattle.qm_json.specs.declared.value.Json.TheVariants as json
 use Rattle.qm_json.specs.declared.value.Member.{Member}
 use Rattle.qm_read.specs.declared.token.Token.{Token}
 use Rattle.qm_read.specs.declared.token.Token.TheVariants as tokens
-use Rattle.qm_read.specs.declared.token.Placed.{Placed}
 use Rattle.qm_read.specs.declared.stack.Open.{Open}
 use Rattle.qm_read.specs.declared.stack.Open.TheVariants.{Top, Arr, Obj, Whole}
 use Rattle.qm_read.specs.declared.stack.Expect.{Expect}
@@ -18,9 +17,9 @@ use Rattle.qm_json.specs.Members.{has_name}
 use Rattle.qm_read.specs.Stacks.{State, begun, put, left}
 use Rattle.qm_read.specs.Steps.{step}
 use Rattle.qm_read.specs.Faults.{whole, run, on, ended, reading}
-use Rattle.qm_read.proofs.Fresh.{fresh, fresh_name}
+use Rattle.qm_read.proofs.Refusals.{fresh, fresh_name}
 use Rattle.qm_read.specs.Viable.{BeginsValue}
-use Rattle.qm_read.specs.Tokens.{at}
+use Rattle.qm_read.specs.Tokens.{Placed, at}
 use Rattle.qm_read.specs.Spelling.{SpellsValue, null, bool, int, num, string, no_items, array, no_members, object, SpellsItems, item, more_items, SpellsMembers, member, more_members}
 
 abbrev going : List Open → Expect → State

@@ -1,7 +1,7 @@
 -- Literals of whole numbers, as `parse` reads them.
-use Rattle.std.proofs.Common.{◌≡◌, ℕ, ◌<◌, Bool, true, false, cond, ◌&&◌, ◌||◌, ◌==◌, nat_lt, List, [], ◌∷◌, length, refl, subst, arith}
+use Rattle.std.proofs.Common.{◌≡◌, ℕ, ◌<◌, Bool, true, false, cond, ◌||◌, ◌==◌, nat_lt, List, [], ◌∷◌, length, refl, subst, arith}
 use Rattle.std.proofs.lemmas.Int.{ints}
-use Rattle.std.proofs.lemmas.Bool.{false_from_ne_true}
+use Rattle.std.proofs.lemmas.Bool.{and_parts, false_from_ne_true}
 use Rattle.std.proofs.lemmas.Bool.Decides.{nat_tests}
 use Rattle.std.proofs.lemmas.Fmt.{IsAscii-from_digits}
 use Rattle.std.proofs.lemmas.Str.{IsUtf8-from_ascii}
@@ -14,27 +14,22 @@ use Rattle.std.specs.Str.{IsUtf8, IsAscii}
 use Rattle.std.specs.Str.Parse.{AllDigits, IsNumeral, without_leading_sign, signed_digits_value}
 use Rattle.qm_json.specs.Numbers.{is_digits, is_whole_part, after_minus, is_in_whole_range}
 
-first : (a b : Bool) → (a && b) ≡ true → a ≡ true
-first true b h = refl
-first false b h = h
-
-second : (a b : Bool) → (a && b) ≡ true → b ≡ true
-second true b h = h
-second false b h = cc
-
 digit : (c : ℕ) → is_ascii_digit c ≡ true → digit_value c < 10
 digit c h = grind (arith, nat_tests, h)
 
 all_digits : (ds : List ℕ) → list_all is_ascii_digit ds ≡ true → AllDigits 10 ds
 all_digits [] h = tt
-all_digits (c ∷ ds) h = (digit c (first _ _ h), all_digits ds (second _ _ h))
+all_digits (c ∷ ds) h = let parts = and_parts (is_ascii_digit c) (list_all is_ascii_digit ds) h in (digit c parts.0, all_digits ds parts.1)
+
+are-digits : (d : ℕ) (ds : List ℕ) → is_whole_part (d ∷ ds) ≡ true → list_all is_ascii_digit (d ∷ ds) ≡ true
+are-digits d ds h = (and_parts (nat_lt 0 (length (d ∷ ds))) _ (and_parts (is_digits (d ∷ ds)) (nat_lt 48 d || length ds == 0) h).0).1
 
 whole_part-digits : (ds : List ℕ) → is_whole_part ds ≡ true → IsNumeral 10 ds
 whole_part-digits [] h = cc
-whole_part-digits (d ∷ ds) h = (omega arith, all_digits (d ∷ ds) (second _ _ (first _ _ h)))
+whole_part-digits (d ∷ ds) h = (omega arith, all_digits (d ∷ ds) (are-digits d ds h))
 
 no_plus : (x : ℕ) (text : List ℕ) → is_whole_part (x ∷ text) ≡ true → (x == 43) ≡ false
-no_plus x text h = let d : is_ascii_digit x ≡ true = first (is_ascii_digit x) (list_all is_ascii_digit text) (second (nat_lt 0 (length (x ∷ text))) (list_all is_ascii_digit (x ∷ text)) (first (is_digits (x ∷ text)) (nat_lt 48 x || length text == 0) h)) in grind (arith, nat_tests, d)
+no_plus x text h = let d = and_parts (is_ascii_digit x) (list_all is_ascii_digit text) (are-digits x text h) in grind (arith, nat_tests, d.0)
 
 unsigned : (x : ℕ) (text : List ℕ) (b : Bool) → is_whole_part (cond b text (x ∷ text)) ≡ true → IsNumeral 10 (cond b text (drop (cond (x == 43) 1 0) (x ∷ text)))
 unsigned x text true h = whole_part-digits text h

@@ -1,41 +1,132 @@
 -- The printed text of a clean value is read as the value.
-use Rattle.std.proofs.Common.{◌≡◌, ℕ, ◌≤◌, Bool, true, false, not, cond, List, [], ◌∷◌, ◌++◌, length, Some, None, Result, Ok, refl, ap, sym, ◌∙◌, subst, arith, append-nil}
-use Rattle.std.specs.Prelude.{ℤ}
-use Rattle.std.specs.Fmt.{signed_decimal}
-use Rattle.std.specs.List.{list_all}
-use Rattle.std.specs.Str.Parse.{signed_digits_value}
-use Rattle.std.proofs.lemmas.Bool.{and_parts, not-true, cond-true, cond-false}
+use Rattle.std.proofs.Common.{◌≡◌, ℕ, ◌+◌, ◌≤◌, zero, suc, true, false, List, [], ◌∷◌, ◌++◌, map, codes, Result, Ok, refl, ap, sym, ◌∙◌, subst, arith, append_assoc, append-nil, Bool, not, cond, length, Some, None}
+use Rattle.std.specs.List.{list_all, flat_map, AllByRecursion}
+use Rattle.std.specs.Str.{is_utf8}
+use Rattle.std.proofs.lemmas.Bool.{and_parts, cond-true, cond-false, not-true}
 use Rattle.std.proofs.lemmas.Str.{IsUtf8-from_is_utf8}
 use Rattle.qm_json.specs.declared.value.Json.{Json}
 use Rattle.qm_json.specs.declared.value.Json.TheVariants as json
-use Rattle.qm_json.specs.Cleanness.{IsClean, is_clean_member, are_distinct}
-use Rattle.qm_json.specs.Numbers.{is_literal, is_whole_literal, is_in_whole_range}
-use Rattle.qm_json.specs.Printing.{printed}
-use Rattle.qm_json.proofs.CleanLaws.{is_clean-Int, is_clean-Num, is_clean-Str, is_clean-Arr, is_clean-Obj}
-use Rattle.qm_json.proofs.PrintLaws.{printed-Null, printed-Bool, printed-Int, printed-Num, printed-Str, printed-Arr, printed-Obj}
-use Rattle.qm_json.proofs.Wholes.{whole_of-printed, literal-printed}
-use Rattle.qm_frame.specs.declared.step.TheConstants.{MAX_DEPTH}
+use Rattle.qm_json.specs.declared.value.Member.{Member}
+use Rattle.qm_json.specs.Cleanness.{is_clean, is_clean_member, are_distinct, IsClean}
+use Rattle.qm_json.specs.Members.{has_name}
+use Rattle.qm_json.specs.Printing.{printed, printed_member, after_comma, array_text, object_text}
+use Rattle.qm_json.specs.Strings.{quoted}
+use Rattle.qm_json.proofs.CleanLaws.{is_clean_member-is, is_clean-Int, is_clean-Num, is_clean-Str, is_clean-Arr, is_clean-Obj}
+use Rattle.qm_json.proofs.PrintLaws.{printed_member-is, printed-Null, printed-Bool, printed-Int, printed-Num, printed-Str, printed-Arr, printed-Obj}
 use Rattle.qm_read.specs.declared.fault.JsonFault.{JsonFault}
-use Rattle.qm_read.specs.declared.token.Token.{Token}
 use Rattle.qm_read.specs.declared.token.Token.TheVariants as tokens
 use Rattle.qm_read.specs.declared.stack.Open.{Open}
-use Rattle.qm_read.specs.declared.stack.Open.TheVariants.{Top}
+use Rattle.qm_read.specs.declared.stack.Open.TheVariants.{Arr, Obj, Top}
 use Rattle.qm_read.specs.declared.stack.Expect.{Expect}
-use Rattle.qm_read.specs.declared.stack.Expect.TheVariants.{Value}
-use Rattle.qm_read.specs.Tokens.{number_token, literal_token, tokens_of}
-use Rattle.qm_read.specs.Stacks.{State, begun, takes_value, put}
+use Rattle.qm_read.specs.declared.stack.Expect.TheVariants.{Value, ValueOrEnd, Name, NameOrEnd, Colon, CommaOrEnd}
+use Rattle.qm_read.specs.Stacks.{State, takes_value, takes_name, put, begun}
 use Rattle.qm_read.specs.Steps.{step, value_step}
-use Rattle.qm_read.specs.Faults.{reading_of}
-use Rattle.qm_json.specs.Nesting.{depth}
-use Rattle.qm_json.proofs.Distinct.{names}
-use Rattle.qm_json.proofs.NestingLaws.{depth-Arr, depth-Obj}
-use Rattle.qm_read.proofs.Accepts.{going, not_name}
-use Rattle.qm_read.proofs.Pieces.{read_from, ends_run, number-leads, string-leads, null-leads, bool-leads}
+use Rattle.qm_read.specs.Faults.{ended, reading_of}
+use Rattle.qm_read.specs.Tokens.{tokens_from, number_token, literal_token, tokens_of}
+use Rattle.qm_json.specs.Nesting.{depth, depth_member, deepest}
+use Rattle.qm_json.proofs.Distinct.{names, new-name}
+use Rattle.qm_json.proofs.NestingLaws.{depth_member-is, depth-Arr, depth-Obj}
+use Rattle.qm_read.proofs.Accepts.{going, Room, opens_array, opens_object, deeper, not_name}
+use Rattle.qm_read.proofs.Pieces.{Leads, read_from, ends_run, string-leads, space-leads, comma-leads, commas-end, number-leads, null-leads, bool-leads}
+use Rattle.std.specs.Prelude.{ℤ}
+use Rattle.std.specs.Fmt.{signed_decimal}
+use Rattle.std.specs.Str.Parse.{signed_digits_value}
+use Rattle.qm_json.specs.Numbers.{is_literal, is_whole_literal, is_in_whole_range}
+use Rattle.qm_json.proofs.Wholes.{whole_of-printed, literal-printed}
+use Rattle.qm_frame.specs.declared.step.TheConstants.{MAX_DEPTH}
+use Rattle.qm_read.specs.declared.token.Token.{Token}
 use Rattle.qm_json.proofs.Inductions.{Inductive, every-Json}
 use Rattle.qm_read.specs.Texts.{Spells}
 use Rattle.qm_read.proofs.NumberBytes.{literal-run}
-use Rattle.qm_read.proofs.PrintedLists.{On, IsRead, array-leads, object-leads}
-use Rattle.qm_read.proofs.Results.{value-spelled}
+use Rattle.qm_read.proofs.Results.{value_spelled}
+
+module _ (n : ℕ) (answer : Result Json JsonFault) where
+  -- from the state the text leads to the answer
+  abbrev pub On : State → List ℕ → Type 0
+  On s text = Leads n answer s text
+
+  -- the printed text of a clean value leads as the value itself does
+  abbrev pub IsRead : Json → Type 0
+  IsRead v = is_clean v ≡ true → (d : ℕ) → depth v ≤ d → (next : Open) (outer : List Open) (e : Expect) (rest : List ℕ) → takes_value e ≡ true → Room d (next ∷ outer) → ends_run rest ≡ true →
+      On (put v (next ∷ outer)) rest → On (going (next ∷ outer) e) (printed v ++ rest)
+
+  -- a name, and the value after it
+  name-step : (done : List Member) (name : List ℕ) (stack : List Open) (e : Expect) → takes_name e ≡ true → has_name done name ≡ false → (place : ℕ) → step (going (Obj done [] ∷ stack) e) (tokens.Str name) place ≡ Ok (going (Obj done name ∷ stack) Colon)
+  name-step done name stack e t h place = cond-true _ _ _ t ∙ cond-false _ _ _ h
+
+  member-text : (m : Member) (rest : List ℕ) → printed_member m ++ rest ≡ quoted m.name ++ (58 ∷ 32 ∷ printed m.value ++ rest)
+  member-text m rest =
+      ap (λ (l : List ℕ). l ++ rest) (printed_member-is m)
+      ∙ append_assoc (quoted m.name ++ codes ": ") (printed m.value) rest
+      ∙ append_assoc (quoted m.name) (codes ": ") (printed m.value ++ rest)
+
+  member-leads : (d : ℕ) (m : Member) (done : List Member) (stack : List Open) (e : Expect) (rest : List ℕ) → IsRead m.value → is_clean_member m ≡ true → depth_member m ≤ d → has_name done m.name ≡ false → takes_name e ≡ true → Room d (Arr [] ∷ stack) → ends_run rest ≡ true →
+      On (going (Obj (done ++ m ∷ []) [] ∷ stack) CommaOrEnd) rest → On (going (Obj done [] ∷ stack) e) (printed_member m ++ rest)
+  member-leads d m done stack e rest h clean deep new t room k leads =
+      let parts = and_parts (is_utf8 m.name) (is_clean m.value) (sym (is_clean_member-is m) ∙ clean) in
+      subst (On (going (Obj done [] ∷ stack) e)) (sym (member-text m rest))
+      (string-leads n answer m.name (going (Obj done [] ∷ stack) e) (going (Obj done m.name ∷ stack) Colon) (58 ∷ 32 ∷ printed m.value ++ rest) (IsUtf8-from_is_utf8 m.name parts.0) (name-step done m.name stack e t new)
+      (λ place. space-leads n answer (going (Obj done m.name ∷ stack) Value) (printed m.value ++ rest) (h parts.1 d (omega (arith, deep, depth_member-is m)) (Obj done m.name) stack Value rest refl room k leads) (place + 1)))
+
+  -- an array or an object in what is open, and a text after it
+  module _ (next : Open) (outer : List Open) (rest : List ℕ) where
+    abbrev Inner : Open → List Open
+    Inner top = top ∷ next ∷ outer
+
+    items-lead : (d : ℕ) (items done : List Json) → AllByRecursion IsRead items → list_all is_clean items ≡ true → deepest (map depth items) ≤ d → Room d (Inner (Arr [])) →
+        On (put (json.Arr (done ++ items)) (next ∷ outer)) rest → On (going (Inner (Arr done)) CommaOrEnd) (flat_map after_comma (map printed items) ++ 93 ∷ rest)
+    items-lead d [] done hs clean deep room leads = λ place. subst (λ (l : List Json). On (put (json.Arr l) (next ∷ outer)) rest) (append-nil done) leads (place + 1)
+    items-lead d (v ∷ items) done hs clean deep room leads =
+        let parts = and_parts (is_clean v) (list_all is_clean items) clean in
+        let after : List ℕ = flat_map after_comma (map printed items) ++ 93 ∷ rest in
+        comma-leads n answer (Inner (Arr done)) (printed v) (map printed items) (93 ∷ rest)
+        (hs.0 parts.0 d (omega (arith, deep)) (Arr done) (next ∷ outer) Value after refl room (commas-end (map printed items) (93 ∷ rest) refl)
+        (items-lead d items (done ++ v ∷ []) hs.1 parts.1 (omega (arith, deep)) room
+        (subst (λ (l : List Json). On (put (json.Arr l) (next ∷ outer)) rest) (sym (append_assoc done (v ∷ []) items)) leads)))
+
+    members-lead : (d : ℕ) (members done : List Member) → AllByRecursion (λ (m : Member). IsRead m.value) members → list_all is_clean_member members ≡ true → are_distinct (names (done ++ members)) ≡ true → deepest (map depth_member members) ≤ d → Room d (Inner (Arr [])) →
+        On (put (json.Obj (done ++ members)) (next ∷ outer)) rest → On (going (Inner (Obj done [])) CommaOrEnd) (flat_map after_comma (map printed_member members) ++ 125 ∷ rest)
+    members-lead d [] done hs clean distinct deep room leads = λ place. subst (λ (l : List Member). On (put (json.Obj l) (next ∷ outer)) rest) (append-nil done) leads (place + 1)
+    members-lead d (m ∷ members) done hs clean distinct deep room leads =
+        let parts = and_parts (is_clean_member m) (list_all is_clean_member members) clean in
+        let all : done ++ m ∷ members ≡ (done ++ m ∷ []) ++ members = sym (append_assoc done (m ∷ []) members) in
+        let after : List ℕ = flat_map after_comma (map printed_member members) ++ 125 ∷ rest in
+        comma-leads n answer (Inner (Obj done [])) (printed_member m) (map printed_member members) (125 ∷ rest)
+        (member-leads d m done (next ∷ outer) Name after hs.0 parts.0 (omega (arith, deep)) (new-name done m members distinct) refl room (commas-end (map printed_member members) (125 ∷ rest) refl)
+        (members-lead d members (done ++ m ∷ []) hs.1 parts.1 (subst (λ (l : List Member). are_distinct (names l) ≡ true) all distinct) (omega (arith, deep)) room
+        (subst (λ (l : List Member). On (put (json.Obj l) (next ∷ outer)) rest) all leads)))
+
+    -- the text after an opening bracket
+    first-text : (text more : List ℕ) (close : ℕ) → ((text ++ more) ++ close ∷ []) ++ rest ≡ text ++ (more ++ close ∷ rest)
+    first-text text more close = append_assoc (text ++ more) (close ∷ []) rest ∙ append_assoc text more (close ∷ rest)
+
+    pub array-leads : (d : ℕ) (items : List Json) (e : Expect) → AllByRecursion IsRead items → list_all is_clean items ≡ true → deepest (map depth items) + 1 ≤ d → takes_value e ≡ true → Room d (next ∷ outer) →
+        On (put (json.Arr items) (next ∷ outer)) rest → On (going (next ∷ outer) e) (array_text (map printed items) ++ rest)
+    array-leads zero items e hs clean deep t room leads = absurd (omega (arith, deep))
+    array-leads (suc d) [] e hs clean deep t room leads = λ place.
+        ap (λ (r : Result State JsonFault). ended r n) (opens_array d (next ∷ outer) e place (tokens_from (place + 1) (93 ∷ rest)) t room) ∙ leads (place + 1 + 1)
+    array-leads (suc d) (v ∷ items) e hs clean deep t room leads = λ place.
+        let parts = and_parts (is_clean v) (list_all is_clean items) clean in
+        let inside : Room d (Inner (Arr [])) = deeper d (next ∷ outer) (Arr []) room in
+        let more : List ℕ = flat_map after_comma (map printed items) in
+        ap (λ (l : List ℕ). read_from n answer (going (next ∷ outer) e) place (91 ∷ l)) (first-text (printed v) more 93)
+        ∙ ap (λ (r : Result State JsonFault). ended r n) (opens_array d (next ∷ outer) e place (tokens_from (place + 1) (printed v ++ (more ++ 93 ∷ rest))) t room)
+        ∙ hs.0 parts.0 d (omega (arith, deep)) (Arr []) (next ∷ outer) ValueOrEnd (more ++ 93 ∷ rest) refl inside (commas-end (map printed items) (93 ∷ rest) refl)
+        (items-lead d items (v ∷ []) hs.1 parts.1 (omega (arith, deep)) inside leads) (place + 1)
+
+    pub object-leads : (d : ℕ) (members : List Member) (e : Expect) → AllByRecursion (λ (m : Member). IsRead m.value) members → list_all is_clean_member members ≡ true → are_distinct (names members) ≡ true → deepest (map depth_member members) + 1 ≤ d → takes_value e ≡ true → Room d (next ∷ outer) →
+        On (put (json.Obj members) (next ∷ outer)) rest → On (going (next ∷ outer) e) (object_text (map printed_member members) ++ rest)
+    object-leads zero members e hs clean distinct deep t room leads = absurd (omega (arith, deep))
+    object-leads (suc d) [] e hs clean distinct deep t room leads = λ place.
+        ap (λ (r : Result State JsonFault). ended r n) (opens_object d (next ∷ outer) e place (tokens_from (place + 1) (125 ∷ rest)) t room) ∙ leads (place + 1 + 1)
+    object-leads (suc d) (m ∷ members) e hs clean distinct deep t room leads = λ place.
+        let parts = and_parts (is_clean_member m) (list_all is_clean_member members) clean in
+        let inside : Room d (Inner (Arr [])) = deeper d (next ∷ outer) (Arr []) room in
+        let more : List ℕ = flat_map after_comma (map printed_member members) in
+        ap (λ (l : List ℕ). read_from n answer (going (next ∷ outer) e) place (123 ∷ l)) (first-text (printed_member m) more 125)
+        ∙ ap (λ (r : Result State JsonFault). ended r n) (opens_object d (next ∷ outer) e place (tokens_from (place + 1) (printed_member m ++ (more ++ 125 ∷ rest))) t room)
+        ∙ member-leads d m [] (next ∷ outer) NameOrEnd (more ++ 125 ∷ rest) hs.0 parts.0 (omega (arith, deep)) refl refl inside (commas-end (map printed_member members) (125 ∷ rest) refl)
+        (members-lead d members (m ∷ []) hs.1 parts.1 distinct (omega (arith, deep)) inside leads) (place + 1)
 
 -- the literal of a whole number, and any other literal
 int-token : (n : ℤ) (place : ℕ) → is_in_whole_range n ≡ true → number_token place (signed_decimal n) ≡ tokens.Int n
@@ -87,13 +178,13 @@ module _ (n : ℕ) (answer : Result Json JsonFault) where
         (object-leads n answer next outer rest d members e hs parts.1 parts.0 (omega (arith, deep, depth-Obj members)) t room leads);
   }
 
-pub printed-value : (v : Json) → IsClean v → depth v ≤ MAX_DEPTH → reading_of (printed v) ≡ Ok v
+pub printed_value : (v : Json) → IsClean v → depth v ≤ MAX_DEPTH → reading_of (printed v) ≡ Ok v
 unfolding reading_of tokens_of
-printed-value v clean deep =
+printed_value v clean deep =
     let n : ℕ = length (printed v) in
     ap (λ (l : List ℕ). read_from n (Ok v) begun 0 l) (sym (append-nil (printed v)))
     ∙ every-Json (IsRead n (Ok v)) (reads-each n (Ok v)) v clean MAX_DEPTH deep Top [] Value [] refl (omega arith) refl (λ place. refl) 0
 
 -- the printed text of a clean value, nested no deeper than texts may be, spells the value
-pub printed-spells : (v : Json) → IsClean v → depth v ≤ MAX_DEPTH → Spells (printed v) v
-printed-spells v clean deep = value-spelled (printed v) v (printed-value v clean deep)
+pub printed_spells : (v : Json) → IsClean v → depth v ≤ MAX_DEPTH → Spells (printed v) v
+printed_spells v clean deep = value_spelled (printed v) v (printed_value v clean deep)

@@ -1,9 +1,12 @@
--- How a token is refused in a state: as one that may not stand there, or as a name that is there.
-use Rattle.std.proofs.Common.{◌≡◌, ℕ, ◌+◌, nat_lt, Bool, true, false, cond, ◌&&◌, ◌⊎◌, inl, inr, List, [], ◌∷◌, length, Result, Ok, Err, refl}
-use Rattle.qm_frame.specs.declared.step.TheConstants.{MAX_DEPTH}
-use Rattle.qm_json.specs.declared.value.Json.TheVariants as json
+-- How a token is refused in a state: as one that may not stand there, or as a name that is there;
+-- and a name that is not there.
+use Rattle.std.proofs.Common.{◌≡◌, ℕ, ◌≤◌, ◌<◌, Bool, true, false, ◌||◌, List, [], ◌∷◌, ◌++◌, length, refl, ap, arith, length-append, ◌+◌, nat_lt, cond, ◌&&◌, ◌⊎◌, inl, inr, Result, Ok, Err}
+use Rattle.std.specs.Str.{bytes_eq}
+use Rattle.std.proofs.lemmas.Slice.Eq.{bytes_eq-Decides}
 use Rattle.qm_json.specs.declared.value.Member.{Member}
 use Rattle.qm_json.specs.Members.{has_name}
+use Rattle.qm_frame.specs.declared.step.TheConstants.{MAX_DEPTH}
+use Rattle.qm_json.specs.declared.value.Json.TheVariants as json
 use Rattle.qm_read.specs.declared.fault.JsonFault.{JsonFault}
 use Rattle.qm_read.specs.declared.fault.JsonFault.TheVariants.{Expected, Duplicate}
 use Rattle.qm_read.specs.declared.stack.Expect.{Expect}
@@ -15,7 +18,33 @@ use Rattle.qm_read.specs.declared.token.Token.TheVariants as tokens
 use Rattle.qm_read.specs.Stacks.{State, takes_value, takes_name, put, ends_array, ends_object}
 use Rattle.qm_read.specs.Steps.{step, value_step, name_step, close_array, close_object, comma_step, colon_step}
 use Rattle.qm_read.specs.Faults.{whole}
-use Rattle.qm_read.proofs.Fresh.{fresh, fresh_name}
+
+pub fresh : List Member → List ℕ
+fresh [] = 97 ∷ []
+fresh (m ∷ ms) = m.name ++ fresh ms
+
+not-true : (b : Bool) → (b ≡ true → ⊥) → b ≡ false
+not-true true h = absurd (h refl)
+not-true false h = refl
+
+unlike : (a b : List ℕ) → length a < length b → bytes_eq a b ≡ false
+unlike a b h = not-true (bytes_eq a b) (λ e. let l : length a ≡ length b = ap length ((bytes_eq-Decides a b).0 e) in omega (arith, h, l))
+
+some : (ms : List Member) → 0 < length (fresh ms)
+unfolding fresh
+some [] = omega arith
+some (m ∷ ms) = omega (arith, length-append m.name (fresh ms), some ms)
+
+either : (a b : Bool) → a ≡ false → b ≡ false → (a || b) ≡ false
+either a b e f = rw (e, f) refl
+
+longer : (ms : List Member) (name : List ℕ) → length (fresh ms) ≤ length name → has_name ms name ≡ false
+unfolding fresh
+longer [] name h = refl
+longer (m ∷ ms) name h = either (bytes_eq m.name name) (has_name ms name) (unlike m.name name (omega (arith, h, length-append m.name (fresh ms), some ms))) (longer ms name (omega (arith, h, length-append m.name (fresh ms))))
+
+pub fresh_name : (ms : List Member) → has_name ms (fresh ms) ≡ false
+fresh_name ms = longer ms (fresh ms) (omega arith)
 
 -- a token is refused as one that something else would have to stand for
 abbrev pub Refuses : Result State JsonFault → ℕ → Type 0
@@ -27,20 +56,12 @@ unless true r p h = h
 unless false r p h = refl
 
 closes_array : (stack : List Open) (p : ℕ) → Refuses (close_array stack p) p
-closes_array [] p = refl
-closes_array (Arr items ∷ []) p = refl
 closes_array (Arr items ∷ next ∷ outer) p = tt
-closes_array (Top ∷ outer) p = refl
-closes_array (Obj members name ∷ outer) p = refl
-closes_array (Whole v ∷ outer) p = refl
+closes_array _ p = refl
 
 closes_object : (stack : List Open) (p : ℕ) → Refuses (close_object stack p) p
-closes_object [] p = refl
-closes_object (Obj members name ∷ []) p = refl
 closes_object (Obj members name ∷ next ∷ outer) p = tt
-closes_object (Top ∷ outer) p = refl
-closes_object (Arr items ∷ outer) p = refl
-closes_object (Whole v ∷ outer) p = refl
+closes_object _ p = refl
 
 takes_comma : (e : Expect) (stack : List Open) (p : ℕ) → Refuses (comma_step e stack p) p
 takes_comma CommaOrEnd stack p = tt
@@ -59,16 +80,13 @@ IsPlain _ = Unit {0}
 pub refuses : (s : State) (k : Token) (p : ℕ) → IsPlain k → Refuses (step s k p) p
 refuses s (tokens.Bad fault) p plain = absurd plain
 refuses s (tokens.Str text) p plain = absurd plain
-refuses s tokens.Null p plain = unless (takes_value s.expect) _ p tt
-refuses s (tokens.Bool b) p plain = unless (takes_value s.expect) _ p tt
-refuses s (tokens.Int n) p plain = unless (takes_value s.expect) _ p tt
-refuses s (tokens.Num text) p plain = unless (takes_value s.expect) _ p tt
 refuses s tokens.OpenArray p plain = unless (takes_value s.expect && nat_lt (length s.stack) (MAX_DEPTH + 1)) _ p tt
 refuses s tokens.OpenObject p plain = unless (takes_value s.expect && nat_lt (length s.stack) (MAX_DEPTH + 1)) _ p tt
 refuses s tokens.CloseArray p plain = unless (ends_array s.expect) _ p (closes_array s.stack p)
 refuses s tokens.CloseObject p plain = unless (ends_object s.expect) _ p (closes_object s.stack p)
 refuses s tokens.Comma p plain = takes_comma s.expect s.stack p
 refuses s tokens.Colon p plain = takes_colon s.expect s.stack p
+refuses s _ p plain = unless (takes_value s.expect) _ p tt
 
 -- strings are refused: this one as a name that is there, while another is taken; or all of them
 pub record Taken (g : List ℕ → Result State JsonFault) : Type 0 where
@@ -87,11 +105,8 @@ new_name : (members : List Member) (outer : List Open) (p : ℕ) → Taken (λ o
 new_name members outer p = record { other = fresh members; next = record { stack = Obj members (fresh members) ∷ outer; expect = Colon }; is = rw (fresh_name members) refl }
 
 name_refused : (stack : List Open) (name : List ℕ) (p : ℕ) (f : JsonFault) → name_step stack name p ≡ Err f → StrRefused (λ other. name_step stack other p) p f
-name_refused [] name p f e = inr (cc, λ other. refl)
 name_refused (Obj members old ∷ outer) name p f e = inl (known (has_name members name) members outer name p f e, new_name members outer p)
-name_refused (Top ∷ outer) name p f e = inr (cc, λ other. refl)
-name_refused (Arr items ∷ outer) name p f e = inr (cc, λ other. refl)
-name_refused (Whole v ∷ outer) name p f e = inr (cc, λ other. refl)
+name_refused _ name p f e = inr (cc, λ other. refl)
 
 value_refused : (b : Bool) (stack : List Open) (name : List ℕ) (p : ℕ) (f : JsonFault) → cond b (Ok (put (json.Str name) stack)) (Err (Expected p)) ≡ Err f → StrRefused (λ other. cond b (Ok (put (json.Str other) stack)) (Err (Expected p))) p f
 value_refused true stack name p f e = cc

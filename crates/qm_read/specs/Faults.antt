@@ -6,10 +6,9 @@ use Rattle.qm_read.specs.declared.fault.JsonFault.{JsonFault}
 use Rattle.qm_read.specs.declared.fault.JsonFault.TheVariants.{Expected}
 use Rattle.qm_read.specs.declared.stack.Open.{Open}
 use Rattle.qm_read.specs.declared.stack.Open.TheVariants.{Whole}
-use Rattle.qm_read.specs.declared.token.Placed.{Placed}
 use Rattle.qm_read.specs.Stacks.{State, begun}
 use Rattle.qm_read.specs.Steps.{step}
-use Rattle.qm_read.specs.Tokens.{tokens_of}
+use Rattle.qm_read.specs.Tokens.{Placed, tokens_of}
 
 abbrev pub on : Result State JsonFault → (State → Result State JsonFault) → Result State JsonFault
 on (Ok s) next = next s

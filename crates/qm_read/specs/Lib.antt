@@ -1,11 +1,8 @@
-pub mod Bytes
-pub mod Decoding
 pub mod Escapes
 pub mod Faults
-pub mod Feeding
 pub mod Inputs
-pub mod Lexemes
 pub mod Names
+pub mod Progress
 pub mod Spans
 pub mod Spelling
 pub mod Stacks
@@ -14,3 +11,4 @@ pub mod Strings
 pub mod Texts
 pub mod Tokens
 pub mod Viable
+pub mod Walks

@@ -6,8 +6,7 @@ use Rattle.qm_json.specs.declared.value.Json.TheVariants as json
 use Rattle.qm_json.specs.declared.value.Member.{Member}
 use Rattle.qm_json.specs.Members.{has_name}
 use Rattle.qm_read.specs.declared.token.Token.TheVariants as tokens
-use Rattle.qm_read.specs.declared.token.Placed.{Placed}
-use Rattle.qm_read.specs.Tokens.{at}
+use Rattle.qm_read.specs.Tokens.{Placed, at}
 
 mutual
   -- the tokens spell the value, in which at most so many brackets are open at a time

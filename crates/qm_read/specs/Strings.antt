@@ -1,13 +1,13 @@
 -- Strings: where they end, and what their bytes stand for (RFC 8259, section 7; single quotes and
 -- the escape `\'` are this project's own rule).
-use Rattle.std.specs.Prelude.{ℕ, ◌+◌, ◌==◌, nat_lt, Bool, not, cond, ◌&&◌, ◌||◌, zero, suc, List, [], ◌∷◌, ◌++◌, take, length, Option, Some, None, option_map, Result, Ok, Err, encode_utf8}
+use Rattle.std.specs.Prelude.{ℕ, ◌+◌, ◌==◌, nat_lt, Bool, not, cond, ◌&&◌, ◌||◌, List, [], ◌∷◌, ◌++◌, take, length, Result, Ok, Err, encode_utf8}
 use Rattle.std.specs.Str.{continuation_len, is_utf8}
 use Rattle.qm_read.specs.declared.fault.JsonFault.{JsonFault}
 use Rattle.qm_read.specs.declared.fault.JsonFault.TheVariants.{BadUtf8}
 use Rattle.qm_read.specs.declared.strings.Part.{Part}
 use Rattle.qm_read.specs.declared.strings.Part.TheVariants.{Same, Char}
-use Rattle.qm_read.specs.Bytes.{Byte}
 use Rattle.qm_read.specs.Escapes.{escape}
+use Rattle.qm_read.specs.Walks.{walk}
 
 -- a control character, which stands in no string
 abbrev pub is_control : ℕ → Bool
@@ -21,16 +21,10 @@ takes_next taken x = not taken && x == 92
 abbrev pub ends_string : ℕ → Bool → ℕ → Bool
 ends_string quote taken x = is_control x || (not taken && x == quote)
 
--- how many bytes of a string stand before the one that ends it
-abbrev pub raw_length : ℕ → Bool → List Byte → Option ℕ
-raw_length quote taken [] = None
-raw_length quote taken (x ∷ rest) =
-    cond (ends_string quote taken x.code) (Some 0) (option_map (λ n. n + 1) (raw_length quote (takes_next taken x.code) rest))
-
--- the last of these bytes is a backslash that takes the next
-abbrev pub is_escaping : Bool → List ℕ → Bool
-is_escaping taken [] = taken
-is_escaping taken (x ∷ rest) = is_escaping (takes_next taken x) rest
+-- how many bytes of a string stand before the one that ends it; all, if none does
+abbrev pub string_length : ℕ → Bool → List ℕ → ℕ
+string_length quote taken [] = 0
+string_length quote taken (x ∷ rest) = cond (ends_string quote taken x) 0 (1 + string_length quote (takes_next taken x) rest)
 
 -- the character that begins with x: as many bytes as x announces, which have to be UTF-8
 abbrev pub character : ℕ → ℕ → List ℕ → Result Part JsonFault
@@ -60,11 +54,12 @@ abbrev pub after_part : Result Part JsonFault → List ℕ → (ℕ → Result (
 after_part (Ok p) bytes go = followed_by (text_in p bytes) (go (more_in p))
 after_part (Err fault) bytes go = Err fault
 
+abbrev pub text_here : ℕ → ℕ → List ℕ → (ℕ → Result (List ℕ) JsonFault) → Result (List ℕ) JsonFault
+text_here place x rest later = after_part (part place x rest) (x ∷ rest) later
+
 -- what bytes from a place on stand for once the first so many are passed over, or their first fault
 abbrev pub text_after : ℕ → ℕ → List ℕ → Result (List ℕ) JsonFault
-text_after k place [] = Ok []
-text_after (suc k) place (x ∷ rest) = text_after k (place + 1) rest
-text_after zero place (x ∷ rest) = after_part (part place x rest) (x ∷ rest) (λ k. text_after k (place + 1) rest)
+text_after k place bytes = walk text_here (Ok []) k place bytes
 
 -- what the bytes of a string whose quote stands at a place stand for, or their first fault
 unfoldable pub text_of : ℕ → List ℕ → Result (List ℕ) JsonFault

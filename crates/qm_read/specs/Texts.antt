@@ -1,9 +1,10 @@
 -- Which texts spell a value, and which fault any other text has first (RFC 8259, section 2; the
 -- limit on nesting and the places of faults are this project's own rule).
-use Rattle.std.specs.Prelude.{ℕ, List, length}
+use Rattle.std.specs.Prelude.{ℕ, ◌<◌, ◌≤◌, List, length}
 use Rattle.qm_frame.specs.declared.step.TheConstants.{MAX_DEPTH}
 use Rattle.qm_json.specs.declared.value.Json.{Json}
 use Rattle.qm_read.specs.declared.fault.JsonFault.{JsonFault}
+use Rattle.qm_read.specs.declared.fault.JsonFault.TheVariants.{Expected, Duplicate, BadEscape, BadUtf8, Memory}
 use Rattle.qm_read.specs.Spelling.{SpellsValue}
 use Rattle.qm_read.specs.Tokens.{tokens_of}
 use Rattle.qm_read.specs.Viable.{FirstFault}
@@ -15,3 +16,11 @@ Spells text value = SpellsValue MAX_DEPTH (tokens_of text) value
 -- the tokens of the text have this fault first
 abbrev pub HasFault : List ℕ → JsonFault → Type 0
 HasFault text fault = FirstFault (tokens_of text) (length text) fault
+
+-- a fault of a text of this length: it stands at a byte of the text, or at its end
+abbrev pub IsWithin : ℕ → JsonFault → Type 0
+IsWithin length (Expected place) = place ≤ length
+IsWithin length (Duplicate place) = place < length
+IsWithin length (BadEscape place) = place < length
+IsWithin length (BadUtf8 place) = place < length
+IsWithin length Memory = ⊥

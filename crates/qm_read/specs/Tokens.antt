@@ -1,19 +1,22 @@
 -- The tokens of a text, by longest match (RFC 8259, sections 2, 3, 6 and 7; runs of letters and of
 -- the bytes of numbers are this project's own rule).
-use Rattle.std.specs.Prelude.{ℕ, ◌==◌, true, false, cond, List, [], ◌∷◌, ◌++◌, take, drop, length, codes, ℤ, Option, Some, None, Result, Ok, Err, ◌+◌}
+use Rattle.std.specs.Prelude.{ℕ, ◌+◌, ◌==◌, true, false, cond, List, [], ◌∷◌, ◌++◌, take, drop, length, min, codes, ℤ, Option, Some, None, Result, Ok, Err}
+use Rattle.std.specs.List.{prefix_len}
 use Rattle.std.specs.Str.{bytes_eq}
-use Rattle.qm_base.specs.Search.{Front, Piece, Final, Found, found_after}
+use Rattle.qm_frame.specs.Bytes.{is_space, begins_number, in_number, is_letter, is_quote}
 use Rattle.qm_json.specs.Numbers.{is_literal, whole_of}
 use Rattle.qm_read.specs.declared.fault.JsonFault.{JsonFault}
 use Rattle.qm_read.specs.declared.fault.JsonFault.TheVariants.{Expected}
-use Rattle.qm_read.specs.declared.token.Last.{Last}
-use Rattle.qm_read.specs.declared.token.Last.TheVariants.{Whole, Number, Word, Str}
+use Rattle.qm_read.specs.declared.token.Lexeme.{Lexeme}
 use Rattle.qm_read.specs.declared.token.Token.{Token}
 use Rattle.qm_read.specs.declared.token.Token.TheVariants as tokens
-use Rattle.qm_read.specs.declared.token.Placed.{Placed}
-use Rattle.qm_frame.specs.Bytes.{is_space, begins_number, in_number, is_letter, is_quote}
-use Rattle.qm_read.specs.Bytes.{Byte, numbered, codes_of, first_not}
-use Rattle.qm_read.specs.Strings.{raw_length, is_escaping, text_of}
+use Rattle.qm_read.specs.Strings.{string_length, text_of}
+use Rattle.qm_read.specs.Walks.{walk}
+
+-- a token, and how many bytes stand before it
+pub record Placed : Type 0 where
+  pub token : Token
+  pub place : ℕ
 
 abbrev pub at : Token → ℕ → Placed
 at token place = record { token = token; place = place }
@@ -50,44 +53,43 @@ string_token (Err fault) stop = tokens.Bad fault
 string_token (Ok text) None = tokens.Str text
 string_token (Ok text) (Some place) = tokens.Bad (Expected place)
 
--- a run of bytes is a token where another byte follows it
-abbrev pub run_to : (List ℕ → Last) → (List ℕ → Token) → Byte → List Byte → Option ℕ → Front Placed Last
-run_to last token x rest None = Final [] (last (codes_of (x ∷ rest)))
-run_to last token x rest (Some n) = Piece (at (token (codes_of (x ∷ take n rest))) x.place ∷ []) n
+-- the place where a string stops, unless the quote closes it there
+abbrev pub stop_at : ℕ → ℕ → List ℕ → Option ℕ
+stop_at place quote [] = Some place
+stop_at place quote (y ∷ rest) = cond (y == quote) None (Some place)
 
--- the byte y ends the string that begins with x
-abbrev pub ended_string : Byte → List ℕ → Byte → Placed
-ended_string x raw y = at (string_token (text_of x.place raw) (cond (y.code == x.code) None (Some y.place))) x.place
+-- a run: x and so many bytes after it
+abbrev pub run_lexeme : (List ℕ → Token) → ℕ → List ℕ → ℕ → Lexeme
+run_lexeme token x rest n = record { token = Some (token (x ∷ take n rest)); more = n }
 
-abbrev pub string_at : Byte → List ℕ → ℕ → List Byte → Front Placed Last
-string_at x raw n (y ∷ rest) = Piece (ended_string x raw y ∷ []) (n + 1)
-string_at x raw n [] = Piece [] n
+-- a string: its quote, so many bytes after it, and the byte that ends it
+abbrev pub string_lexeme : ℕ → ℕ → List ℕ → ℕ → Lexeme
+string_lexeme place quote rest n =
+    record { token = Some (string_token (text_of place (take n rest)) (stop_at (place + 1 + n) quote (drop n rest))); more = min (n + 1) (length rest) }
 
-abbrev pub string_to : Byte → List Byte → Option ℕ → Front Placed Last
-string_to x rest None = Final [] (Str x.place x.code (is_escaping false (codes_of rest)) (codes_of rest))
-string_to x rest (Some n) = string_at x (codes_of (take n rest)) n (drop n rest)
+-- what stands at the front of a text, from x on; what stands after a fault does not matter
+abbrev pub lexeme_of : ℕ → ℕ → List ℕ → Lexeme
+lexeme_of place x rest =
+    cond (is_space x) (record { token = None; more = prefix_len is_space rest })
+    (cond (begins_number x) (run_lexeme (number_token place) x rest (prefix_len in_number rest))
+    (cond (is_letter x) (run_lexeme (word_token place) x rest (prefix_len is_letter rest))
+    (cond (is_quote x) (string_lexeme place x rest (string_length x false rest))
+    (record { token = Some (mark_token place x); more = 0 }))))
 
--- the piece that begins with x; what stands after a fault does not matter
-abbrev pub piece : Byte → List Byte → Front Placed Last
-piece x rest =
-    cond (is_space x.code) (Piece [] 0)
-    (cond (begins_number x.code) (run_to (Number x.place) (number_token x.place) x rest (first_not in_number rest))
-    (cond (is_letter x.code) (run_to (Word x.place) (word_token x.place) x rest (first_not is_letter rest))
-    (cond (is_quote x.code) (string_to x rest (raw_length x.code false rest))
-    (Piece (at (mark_token x.place x.code) x.place ∷ []) 0))))
+abbrev pub placed : Option Token → ℕ → List Placed
+placed None place = []
+placed (Some token) place = at token place ∷ []
 
-abbrev pub found : List Byte → Found Placed Last
-found bytes = found_after piece Whole 0 bytes
+-- the token of a lexeme, if it has one, and those of what follows it
+abbrev pub with_later : Lexeme → ℕ → (ℕ → List Placed) → List Placed
+with_later l place later = placed l.token place ++ later l.more
 
--- what the end of a text of this length makes of the piece that it ends in
-abbrev pub closing : Last → ℕ → List Placed
-closing Whole length = []
-closing (Number place text) length = at (number_token place text) place ∷ []
-closing (Word place text) length = at (word_token place text) place ∷ []
-closing (Str place quote taken raw) length = at (string_token (text_of place raw) (Some length)) place ∷ []
+abbrev pub tokens_here : ℕ → ℕ → List ℕ → (ℕ → List Placed) → List Placed
+tokens_here place x rest later = with_later (lexeme_of place x rest) place later
 
-abbrev pub tokens_in : Found Placed Last → ℕ → List Placed
-tokens_in f length = f.answers ++ closing f.rest length
+-- the tokens of bytes of which the first stands at a place
+abbrev pub tokens_from : ℕ → List ℕ → List Placed
+tokens_from place bytes = walk tokens_here [] 0 place bytes
 
 unfoldable pub tokens_of : List ℕ → List Placed
-tokens_of text = tokens_in (found (numbered 0 text)) (length text)
+tokens_of text = tokens_from 0 text

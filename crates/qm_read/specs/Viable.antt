@@ -6,9 +6,8 @@ use Rattle.qm_read.specs.declared.fault.JsonFault.{JsonFault}
 use Rattle.qm_read.specs.declared.fault.JsonFault.TheVariants.{Expected, Duplicate}
 use Rattle.qm_read.specs.declared.token.Token.{Token}
 use Rattle.qm_read.specs.declared.token.Token.TheVariants as tokens
-use Rattle.qm_read.specs.declared.token.Placed.{Placed}
 use Rattle.qm_read.specs.Spelling.{SpellsValue}
-use Rattle.qm_read.specs.Tokens.{at}
+use Rattle.qm_read.specs.Tokens.{Placed, at}
 
 -- with some tokens after them, the tokens spell some value
 pub record BeginsValue (ts : List Placed) : Type 0 where

@@ -1,3 +1,7 @@
+ghost use Rattle.std.specs.Prelude.{◌≡◌};
+
+use qm_base::NoMemory;
+
 /// Why a text is no value's, with the place of the fault: the number of bytes before it.
 #[derive(Clone, Copy, PartialEq, Eq, Debug, Drop)]
 pub enum JsonFault {
@@ -11,4 +15,14 @@ pub enum JsonFault {
     BadUtf8(u64),
     /// No memory was left.
     Memory,
+}
+
+impl From<NoMemory> for JsonFault {
+    ghost use Rattle.qm_read.specs.declared.fault.JsonFault.TheVariants.{Memory};
+
+    ghost from_gives = { λ _ fault. fault ≡ Memory };
+
+    fn from(_fault: NoMemory) -> JsonFault {
+        JsonFault::Memory
+    }
 }

@@ -15,10 +15,8 @@ mod token;
 
 pub use fault::JsonFault;
 pub use reading::{
-    each_fault_is_the_first, each_printed_value_is_read, each_printed_value_is_spelled,
-    each_value_is_clean, each_value_is_spelled, memory_is_no_fault, no_value_is_too_deep, read,
+    each_fault_is_the_first, each_fault_is_within_its_text, each_printed_value_is_read,
+    each_printed_value_is_spelled, each_value_is_clean, each_value_is_spelled, memory_is_no_fault,
+    no_value_is_too_deep, read,
 };
 pub use taken::Taken;
-
-#[cfg(test)]
-mod tests;

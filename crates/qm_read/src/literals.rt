@@ -130,13 +130,7 @@ pub fn whole_of(text: &[u8]) -> Option<i128>
         return None;
     }
     match parsed(text) {
-        Some(number) => {
-            if is_in_whole_range(number) {
-                Some(number)
-            } else {
-                None
-            }
-        }
-        None => None,
+        Some(number) if is_in_whole_range(number) => Some(number),
+        _ => None,
     }
 }

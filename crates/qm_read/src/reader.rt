@@ -1,8 +1,10 @@
 ghost use Rattle.std.specs.Prelude.{◌≡◌, List, OnOk, ◌∷◌, IfOk};
 ghost use Rattle.qm_read.specs.Faults.{whole};
-ghost use Rattle.qm_read.specs.Feeding.{Steps};
-ghost use Rattle.qm_read.specs.Stacks.{begun, takes_value as of_value, takes_name as of_name, given, after_value as next_after, ends_array as array_end, ends_object as object_end, after_comma as comma_then, left};
-ghost use Rattle.qm_read.specs.Steps.{step, value_step, open_step, name_step};
+ghost use Rattle.qm_read.specs.Progress.{Steps};
+ghost use Rattle.qm_read.specs.Stacks as stacks;
+ghost use Rattle.qm_read.specs.Stacks.{begun};
+ghost use Rattle.qm_read.specs.Steps as steps;
+ghost use Rattle.qm_read.specs.Steps.{step};
 
 use crate::JsonFault;
 use crate::named_members::NamedMembers;
@@ -40,27 +42,19 @@ impl Model for Reader {
 }
 
 fn takes_value(expect: Expect) -> bool
-    ensures { result ≡ of_value expect }
+    ensures { result ≡ stacks.takes_value expect }
 {
-    match expect {
-        Expect::Value | Expect::ValueOrEnd => true,
-        Expect::Name | Expect::NameOrEnd | Expect::Colon | Expect::CommaOrEnd | Expect::End =>
-            false,
-    }
+    matches!(expect, Expect::Value | Expect::ValueOrEnd)
 }
 
 fn takes_name(expect: Expect) -> bool
-    ensures { result ≡ of_name expect }
+    ensures { result ≡ stacks.takes_name expect }
 {
-    match expect {
-        Expect::Name | Expect::NameOrEnd => true,
-        Expect::Value | Expect::ValueOrEnd | Expect::Colon | Expect::CommaOrEnd | Expect::End =>
-            false,
-    }
+    matches!(expect, Expect::Name | Expect::NameOrEnd)
 }
 
 fn after_value(top: &Open) -> Expect
-    ensures { result ≡ next_after top.now }
+    ensures { result ≡ stacks.after_value top.now }
 {
     match top {
         Open::Top | Open::Whole(_) => Expect::End,
@@ -70,7 +64,7 @@ fn after_value(top: &Open) -> Expect
 
 /// Puts a value into what it stands in.
 fn give(alloc: Global, top: &mut Open, value: Json) -> Result<(), NoMemory>
-    ensures { OnOk result (top.new ≡ given top.old value) }
+    ensures { OnOk result (top.new ≡ stacks.given top.old value) }
 {
     match top {
         Open::Arr(items) => match items.push(value) {
@@ -89,7 +83,7 @@ fn give(alloc: Global, top: &mut Open, value: Json) -> Result<(), NoMemory>
 }
 
 fn after_comma(top: &Open) -> Expect
-    ensures { (outer : List Open) → result ≡ comma_then (top.now ∷ outer) }
+    ensures { (outer : List Open) → result ≡ stacks.after_comma (top.now ∷ outer) }
 {
     match top {
         Open::Obj(_, _) => Expect::Name,
@@ -98,21 +92,15 @@ fn after_comma(top: &Open) -> Expect
 }
 
 fn ends_array(expect: Expect) -> bool
-    ensures { result ≡ array_end expect }
+    ensures { result ≡ stacks.ends_array expect }
 {
-    match expect {
-        Expect::ValueOrEnd | Expect::CommaOrEnd => true,
-        Expect::Value | Expect::Name | Expect::NameOrEnd | Expect::Colon | Expect::End => false,
-    }
+    matches!(expect, Expect::ValueOrEnd | Expect::CommaOrEnd)
 }
 
 fn ends_object(expect: Expect) -> bool
-    ensures { result ≡ object_end expect }
+    ensures { result ≡ stacks.ends_object expect }
 {
-    match expect {
-        Expect::NameOrEnd | Expect::CommaOrEnd => true,
-        Expect::Value | Expect::Name | Expect::ValueOrEnd | Expect::Colon | Expect::End => false,
-    }
+    matches!(expect, Expect::NameOrEnd | Expect::CommaOrEnd)
 }
 
 impl Reader {
@@ -129,35 +117,31 @@ impl Reader {
     }
 
     fn value(&mut self, value: Json, place: u64) -> Result<(), JsonFault>
-        ensures { Steps (value_step self.old value place) result self.new }
+        ensures { Steps (steps.value_step self.old value place) result self.new }
     {
         if !takes_value(self.expect) {
             return Err(JsonFault::Expected(place));
         }
         self.expect = after_value(&self.current);
-        match give(self.alloc, &mut self.current, value) {
-            Ok(()) => Ok(()),
-            Err(NoMemory) => Err(JsonFault::Memory),
-        }
+        give(self.alloc, &mut self.current, value)?;
+        Ok(())
     }
 
     /// Puts a value that a closer ended into what was open before it.
     fn leave(&mut self, value: Json, place: u64) -> Result<(), JsonFault>
-        ensures { Steps (left self.old.stack value place) result self.new }
+        ensures { Steps (stacks.left self.old.stack value place) result self.new }
     {
         let Some(outer) = self.outer.pop() else {
             return Err(JsonFault::Expected(place));
         };
         self.current = outer;
         self.expect = after_value(&self.current);
-        match give(self.alloc, &mut self.current, value) {
-            Ok(()) => Ok(()),
-            Err(NoMemory) => Err(JsonFault::Memory),
-        }
+        give(self.alloc, &mut self.current, value)?;
+        Ok(())
     }
 
     fn open(&mut self, top: Open, next: Expect, place: u64) -> Result<(), JsonFault>
-        ensures { Steps (open_step self.old top next place) result self.new }
+        ensures { Steps (steps.open_step self.old top next place) result self.new }
     {
         if !takes_value(self.expect) || self.outer.len() >= MAX_DEPTH {
             return Err(JsonFault::Expected(place));
@@ -173,7 +157,7 @@ impl Reader {
     }
 
     fn name(&mut self, text: Text, place: u64) -> Result<(), JsonFault>
-        ensures { Steps (name_step self.old.stack text place) result self.new }
+        ensures { Steps (steps.name_step self.old.stack text place) result self.new }
     {
         match &mut self.current {
             Open::Obj(members, name) => {
@@ -215,35 +199,21 @@ impl Reader {
     fn comma(&mut self, place: u64) -> Result<(), JsonFault>
         ensures { Steps (step self.old Token.Comma place) result self.new }
     {
-        match self.expect {
-            Expect::CommaOrEnd => {
-                self.expect = after_comma(&self.current);
-                Ok(())
-            }
-            Expect::Value
-            | Expect::ValueOrEnd
-            | Expect::Name
-            | Expect::NameOrEnd
-            | Expect::Colon
-            | Expect::End => Err(JsonFault::Expected(place)),
+        if !matches!(self.expect, Expect::CommaOrEnd) {
+            return Err(JsonFault::Expected(place));
         }
+        self.expect = after_comma(&self.current);
+        Ok(())
     }
 
     fn colon(&mut self, place: u64) -> Result<(), JsonFault>
         ensures { Steps (step self.old Token.Colon place) result self.new }
     {
-        match self.expect {
-            Expect::Colon => {
-                self.expect = Expect::Value;
-                Ok(())
-            }
-            Expect::Value
-            | Expect::ValueOrEnd
-            | Expect::Name
-            | Expect::NameOrEnd
-            | Expect::CommaOrEnd
-            | Expect::End => Err(JsonFault::Expected(place)),
+        if !matches!(self.expect, Expect::Colon) {
+            return Err(JsonFault::Expected(place));
         }
+        self.expect = Expect::Value;
+        Ok(())
     }
 
     /// Takes the next token.

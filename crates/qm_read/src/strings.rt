@@ -1,10 +1,11 @@
-ghost use Rattle.std.specs.Prelude.{◌≡◌, ◌≢◌, ◌+◌, ◌<◌, ◌≤◌, ◌++◌, ◌^◌, ◌&&◌, length, drop, slice_index, IsTrue, IfOk, OnOk, Ok, Err};
-ghost use Rattle.std.specs.Char.{digit_value as value_of_digit, InScalarRange};
+ghost use Rattle.std.specs.Prelude.{◌≡◌, ◌≢◌, ◌+◌, ◌<◌, ◌≤◌, ◌++◌, ◌^◌, ◌&&◌, length, drop, slice_index, IsTrue, IfOk, IfSome, IsSome, OnOk, Ok, Err};
+ghost use Rattle.std.specs.Char as chars;
 ghost use Rattle.std.specs.Char.Utf16.{is_high_surrogate as is_high, is_low_surrogate as is_low};
-ghost use Rattle.std.specs.Str.{continuation_len as continuation, is_utf8 as utf8};
-ghost use Rattle.qm_read.specs.Escapes.{is_hex as of_hex, hex_of as hex, unicode_of as unicode, pair_of as pair, unicode_escape as unicode_part, escaped_byte as byte_of, escape as escape_part};
-ghost use Rattle.qm_read.specs.Decoding.{Decodes};
-ghost use Rattle.qm_read.specs.Strings.{character as character_part, part as part_of, text_in, more_in, text_of as text};
+ghost use Rattle.std.specs.Str as str;
+ghost use Rattle.qm_read.specs.Escapes as escapes;
+ghost use Rattle.qm_read.specs.Progress.{Advances, decoded_from};
+ghost use Rattle.qm_read.specs.Strings as strings;
+ghost use Rattle.qm_read.specs.Strings.{text_in, more_in};
 
 use crate::JsonFault;
 use crate::spans::{Span, span_length};
@@ -20,7 +21,7 @@ pub enum Part {
 }
 
 fn digit_value(byte: u8) -> u16
-    ensures { result ≡ value_of_digit byte }
+    ensures { result ≡ chars.digit_value byte }
 {
     let code = byte as u16;
     if code < 48 {
@@ -41,24 +42,25 @@ fn digit_value(byte: u8) -> u16
 }
 
 fn is_hex(byte: u8) -> bool
-    ensures value { result ≡ of_hex byte }
-    ensures small { IsTrue result → value_of_digit byte < 16 }
+    ensures value { result ≡ escapes.is_hex byte }
+    ensures small { IsTrue result → chars.digit_value byte < 16 }
 {
     digit_value(byte) < 16
 }
 
 fn are_hex(a: u8, b: u8, c: u8, d: u8) -> bool
-    ensures value { result ≡ (of_hex a && of_hex b && of_hex c && of_hex d) }
-    ensures first { IsTrue result → value_of_digit a < 16 }
-    ensures second { IsTrue result → value_of_digit b < 16 }
-    ensures third { IsTrue result → value_of_digit c < 16 }
-    ensures fourth { IsTrue result → value_of_digit d < 16 }
+    ensures value { result ≡ (escapes.is_hex a && escapes.is_hex b && escapes.is_hex c && escapes.is_hex d) }
+    ensures first { IsTrue result → chars.digit_value a < 16 }
+    ensures second { IsTrue result → chars.digit_value b < 16 }
+    ensures third { IsTrue result → chars.digit_value c < 16 }
+    ensures fourth { IsTrue result → chars.digit_value d < 16 }
 {
     is_hex(a) && is_hex(b) && is_hex(c) && is_hex(d)
 }
 
 fn hex_of(text: &[u8]) -> Option<u16>
-    ensures { result ≡ hex text.now }
+    ensures value { result ≡ escapes.hex_of text.now }
+    ensures long { IfSome result (λ c. 4 ≤ length text.now) }
 {
     match text {
         [a, b, c, d, ..] => {
@@ -74,7 +76,8 @@ fn hex_of(text: &[u8]) -> Option<u16>
 }
 
 fn unicode_of(text: &[u8]) -> Option<u16>
-    ensures { result ≡ unicode text.now }
+    ensures value { result ≡ escapes.unicode_of text.now }
+    ensures long { IfSome result (λ c. 6 ≤ length text.now) }
 {
     match text {
         [x, y, rest @ ..] => {
@@ -102,7 +105,7 @@ fn is_low_surrogate(unit: u16) -> bool
 
 /// The part of an escape whose number is no surrogate's.
 fn escaped_char(code: u32, more: usize) -> Part
-    requires { InScalarRange code }
+    requires { chars.InScalarRange code }
     ensures { result ≡ Part.Char code more }
 {
     match char::from_u32(code) {
@@ -113,7 +116,8 @@ fn escaped_char(code: u32, more: usize) -> Part
 
 /// The part of two surrogates, the second of which follows at once.
 fn pair_of(high: u16, low: Option<u16>, place: u64) -> Result<Part, JsonFault>
-    ensures { result ≡ pair place high low }
+    ensures value { result ≡ escapes.pair_of place high low }
+    ensures long { IfOk result (λ p. IsSome low × (more_in p ≡ 11)) }
 {
     match low {
         None => Err(JsonFault::BadEscape(place)),
@@ -128,15 +132,17 @@ fn pair_of(high: u16, low: Option<u16>, place: u64) -> Result<Part, JsonFault>
     }
 }
 
-/// The part of an escape `\uXXXX` by its number and what follows it.
-fn unicode_escape(code: Option<u16>, rest: &[u8], place: u64) -> Result<Part, JsonFault>
-    ensures { result ≡ unicode_part place code rest.now }
+/// The part of an escape by what follows its `\u`.
+fn unicode_escape(text: &[u8], place: u64) -> Result<Part, JsonFault>
+    ensures value { result ≡
+        escapes.unicode_escape place (escapes.hex_of text.now) (drop 4 text.now) }
+    ensures long { IfOk result (λ p. more_in p ≤ length text.now + 1) }
 {
-    match code {
+    match hex_of(text) {
         None => Err(JsonFault::BadEscape(place)),
         Some(c) => {
             if is_high_surrogate(c) || is_low_surrogate(c) {
-                pair_of(c, unicode_of(rest), place)
+                pair_of(c, unicode_of(past(text, 4)), place)
             } else {
                 Ok(escaped_char(c as u32, 5))
             }
@@ -146,7 +152,7 @@ fn unicode_escape(code: Option<u16>, rest: &[u8], place: u64) -> Result<Part, Js
 
 /// What a backslash and this byte stand for.
 fn escaped_byte(byte: u8) -> Option<u8>
-    ensures { result ≡ byte_of byte }
+    ensures { result ≡ escapes.escaped_byte byte }
 {
     if byte == b'"' || byte == b'\'' || byte == b'\\' || byte == b'/' {
         Some(byte)
@@ -178,13 +184,14 @@ pub fn past(text: &[u8], count: usize) -> &[u8]
 
 /// The part whose backslash stands before these bytes.
 fn escape(rest: &[u8], place: u64) -> Result<Part, JsonFault>
-    ensures { result ≡ escape_part place rest.now }
+    ensures value { result ≡ escapes.escape place rest.now }
+    ensures long { IfOk result (λ p. more_in p ≤ length rest.now) }
 {
     match rest {
         [] => Err(JsonFault::BadEscape(place)),
         [x, rest @ ..] => {
             if *x == b'u' {
-                unicode_escape(hex_of(rest), past(rest, 4), place)
+                unicode_escape(rest, place)
             } else {
                 match escaped_byte(*x) {
                     Some(c) => Ok(Part::Char(c as char, 1)),
@@ -196,7 +203,7 @@ fn escape(rest: &[u8], place: u64) -> Result<Part, JsonFault>
 }
 
 fn continuation_len(byte: u8) -> usize
-    ensures value { result ≡ continuation byte }
+    ensures value { result ≡ str.continuation_len byte }
     ensures small { result ≤ 3 }
 {
     if byte < 128 {
@@ -211,7 +218,7 @@ fn continuation_len(byte: u8) -> usize
 }
 
 fn is_utf8(bytes: &[u8]) -> bool
-    ensures { result ≡ utf8 bytes.now }
+    ensures { result ≡ str.is_utf8 bytes.now }
 {
     match str::from_utf8(bytes) {
         Ok(_) => true,
@@ -220,9 +227,11 @@ fn is_utf8(bytes: &[u8]) -> bool
 }
 
 /// The part that is the character at the front.
+#[tactic(auto, using(crate::proofs::StringLemmas::character_ascii))]
 fn character(bytes: &[u8], place: u64) -> Result<Part, JsonFault>
     requires { 0 < length bytes.now }
-    ensures { result ≡ character_part place (slice_index bytes.now 0) (drop 1 bytes.now) }
+    ensures value { result ≡ strings.character place (slice_index bytes.now 0) (drop 1 bytes.now) }
+    ensures long { IfOk result (λ p. more_in p < length bytes.now) }
 {
     let first = bytes[0];
     if first < 0x80 {
@@ -239,8 +248,8 @@ fn character(bytes: &[u8], place: u64) -> Result<Part, JsonFault>
 /// The part at the front of these bytes.
 fn first_part(bytes: &[u8], place: u64) -> Result<Part, JsonFault>
     requires { 0 < length bytes.now }
-    ensures value { result ≡ part_of place (slice_index bytes.now 0) (drop 1 bytes.now) }
-    ensures within { IfOk result (λ p. more_in p < length bytes.now) }
+    ensures value { result ≡ strings.part place (slice_index bytes.now 0) (drop 1 bytes.now) }
+    ensures long { IfOk result (λ p. more_in p < length bytes.now) }
 {
     if bytes[0] == b'\\' {
         escape(past(bytes, 1), place)
@@ -274,39 +283,31 @@ fn length_after_first(part: Part) -> usize
 
 /// Appends what the first of these bytes stand for, and answers how many they are: bytes that stand
 /// for themselves are taken as a run, any other part alone.
+#[tactic(auto, using(crate::proofs::StringLemmas::plain_taken, crate::proofs::StringLemmas::part_taken))]
 fn take_part(text: &mut Text, bytes: &[u8], place: u64) -> Result<usize, JsonFault>
     requires { 0 < length bytes.now }
-    ensures { Decodes text.old place bytes.now result text.new }
+    ensures { Advances decoded_from text.old place bytes.now result text.new }
 {
     let count = span_length(Span::Plain(b'\\'), bytes);
     if count > 0 {
-        return match text.extend(&bytes[..count]) {
-            Ok(()) => Ok(count),
-            Err(NoMemory) => Err(JsonFault::Memory),
-        };
+        text.extend(&bytes[..count])?;
+        return Ok(count);
     }
-    match first_part(bytes, place) {
-        Ok(part) => match append(text, bytes, part) {
-            Ok(()) => Ok(1 + length_after_first(part)),
-            Err(NoMemory) => Err(JsonFault::Memory),
-        },
-        Err(fault) => Err(fault),
-    }
+    let part = first_part(bytes, place)?;
+    append(text, bytes, part)?;
+    Ok(1 + length_after_first(part))
 }
 
 /// What the bytes of a string stand for, whose quote stands at the start.
+#[tactic(auto, using(crate::proofs::StringLemmas::no_parts))]
 pub fn text_of(alloc: Global, raw: &[u8], start: u64) -> Result<Text, JsonFault>
     requires { start + 1 + length raw.now < 2 ^ 64 }
-    ensures { result ≢ Err JsonFault.Memory → result ≡ text start raw.now }
+    ensures { result ≢ Err JsonFault.Memory → result ≡ strings.text_of start raw.now }
 {
     let mut out = Text::new(alloc);
     let mut i = 0;
     while i < raw.len() {
-        let rest = past(raw, i);
-        match take_part(&mut out, rest, start + 1 + i as u64) {
-            Ok(count) => i += count,
-            Err(fault) => return Err(fault),
-        }
+        i += take_part(&mut out, past(raw, i), start + 1 + i as u64)?;
     }
     Ok(out)
 }

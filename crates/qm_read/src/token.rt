@@ -30,34 +30,11 @@ pub enum Token {
     Bad(JsonFault),
 }
 
-/// A token and the place of its first byte.
-#[derive(Drop)]
-pub struct Placed {
-    /// The token.
-    pub token: Token,
-    /// How many bytes stand before it.
-    pub place: u64,
-}
-
-/// The piece that a text ends in, with the place of its first byte.
-#[derive(Drop)]
-pub enum Last {
-    /// None that further bytes lengthen.
-    Whole,
-    /// A number, by its bytes.
-    Number(u64, Text),
-    /// A word, by its bytes.
-    Word(u64, Text),
-    /// A string that is not closed: its quote, whether its last byte is a backslash that takes the
-    /// next byte, and the bytes after the quote.
-    Str(u64, u8, bool, Text),
-}
-
 /// What stands at the front of a text.
 #[derive(Drop)]
 pub struct Lexeme {
     /// Its token; none of white space.
     pub token: Option<Token>,
-    /// How many bytes it takes.
-    pub length: usize,
+    /// How many bytes it takes after the first.
+    pub more: usize,
 }

@@ -1,5 +1,5 @@
 use Rattle.std.proofs.Common.{◌≡◌, ◌+◌, ◌-◌, ◌≤◌, false, length, drop}
-use Rattle.qm_read.specs.Lexemes.{string_length}
+use Rattle.qm_read.specs.Strings.{string_length}
 use Rattle.qm_read.proofs.lexer.string_length.Given as goal
 
 abbrev pub invariant-loop-count : goal.invariant-loop-count
