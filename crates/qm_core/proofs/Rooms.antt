@@ -1,10 +1,10 @@
 -- The room of a journal for one more entry.
-use Rattle.std.proofs.Common.{◌≡◌, ℕ, ◌+◌, ◌*◌, ◌≤◌, nat_le, Bool, ◌&&◌, List, ◌∷◌, length, Result, Ok, Err, IfOk, refl, ap, sym, subst, ◌∙◌, arith}
+use Rattle.std.proofs.Common.{◌≡◌, ℕ, ◌+◌, ◌*◌, ◌≤◌, nat_le, Bool, ◌&&◌, ◌∷◌, length, Result, Ok, Err, IfOk, refl, ap, sym, subst, ◌∙◌, arith}
 use Rattle.std.specs.Result.{result_err}
 use Rattle.std.proofs.lemmas.Bool.Decides.{nat_tests}
 use Rattle.std.proofs.lemmas.List.{length-reverse, reverse-reverse}
 use Rattle.qm_json.specs.Printing.{capped}
-use Rattle.qm_core.specs.Kept.{HasPlace, IsPlaced, Placed, has_place}
+use Rattle.qm_core.specs.Kept.{HasPlace, Placed, has_place}
 use Rattle.qm_core.specs.Legal.{past_of}
 use Rattle.qm_core.specs.Next.{View, full_refusal, full_unless}
 use Rattle.qm_core.specs.Standing.{open_count_of}
