@@ -54,13 +54,17 @@ fn best(owns: &[Option<TurnItem>], bests: &[Option<TurnItem>], place: usize) -> 
     )
 }
 
-/// Tells the best of a place, and of all places above it.
+/// Tells the best of a place, and of all places above it that this changes.
 fn settle(owns: &[Option<TurnItem>], bests: &mut [Option<TurnItem>], place: usize)
     requires within { place < length owns.now }
     requires tree { IsTreeBut place owns.now bests.old }
     ensures { IsTree owns.now bests.new }
 {
-    bests[place] = best(owns, bests, place);
+    let best = best(owns, bests, place);
+    if bests[place] == best {
+        return;
+    }
+    bests[place] = best;
     if place > 0 {
         settle(owns, bests, (place - 1) / 2);
     }
