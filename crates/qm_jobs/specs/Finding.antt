@@ -11,3 +11,4 @@ use Rattle.qm_plan.specs.declared.verbs.Verb.{Verb}
 pub record Finds (table : List Job) (verb : Verb) (id : List ℕ) (result : Result Going JobFault) : Type 0 where
   pub ok : IfOk result (λ g. verb_of table verb id ≡ Ok (record { changes = g.changes; table = with_state id g.state table }))
   pub err : IfErr result (λ fault. fault ≢ Memory → verb_of table verb id ≡ Err fault)
+  pub refused : IfErr (verb_of table verb id) (λ fault. result ≡ Err fault)

@@ -1,9 +1,11 @@
 -- The tree over the places of a list: one place told, one place more, and what its root tells.
-use Rattle.std.proofs.Common.{◌≡◌, ◌≢◌, ℕ, ◌+◌, ◌-◌, ◌*◌, ◌/◌, ◌%◌, ◌<◌, ◌≤◌, zero, suc, List, [], ◌∷◌, ◌++◌, length, get_or, IfSome, take, drop, Option, Some, None, option_to_list, flat_map, refl, ap, sym, ◌∙◌, subst, arith, length-append, ◌⊎◌, inl, inr}
+use Rattle.std.proofs.Common.{◌≡◌, ◌≢◌, ℕ, ◌+◌, ◌-◌, ◌*◌, ◌/◌, ◌%◌, ◌<◌, ◌≤◌, zero, suc, List, [], ◌∷◌, ◌++◌, length, get_or, IfSome, take, drop, Option, Some, None, option_to_list, flat_map, Bool, true, false, nat_eq, ◌&&◌, refl, ap, sym, ◌∙◌, subst, arith, length-append, ◌⊎◌, inl, inr}
 use Rattle.std.proofs.Math.ListN.{set, length-set}
 use Rattle.std.proofs.Math.Seq.{take-append_seam}
 use Rattle.std.proofs.lemmas.Bool.{cases_eq}
 use Rattle.std.proofs.lemmas.List.{get_or-set_same, get_or-set_other}
+use Rattle.std.specs.Option.{option_eq}
+use Rattle.std.proofs.lemmas.Bool.Decides.{nat_tests}
 use Rattle.qm_queue.specs.Trees.{IsTree, IsTreeBut, IsNumbered, item_at, best_below}
 use Rattle.qm_queue.specs.Turns.{earlier_of, waiting_in, first_of, IsOpened}
 use Rattle.qm_queue.specs.declared.turns.TurnItem.{TurnItem}
@@ -49,6 +51,35 @@ told-first owns bests place tree within first = record {
   same = length-set bests place (best_below owns bests place) ∙ tree.same;
   each = λ k. told owns bests place k tree within (omega arith) (omega arith)
 }
+
+-- a place told already
+pub told-already : (owns bests : Items) (place : ℕ) → IsTreeBut place owns bests → item_at bests place ≡ best_below owns bests place → IsTree owns bests
+told-already owns bests place tree here = record { same = tree.same; each = λ k. either k (cases_eq k place) } where
+  either : (k : ℕ) → (k ≡ place) ⊎ (k ≢ place) → item_at bests k ≡ best_below owns bests k
+  either k (inl e) = subst (λ (j : ℕ). item_at bests j ≡ best_below owns bests j) (sym e) here
+  either k (inr ne) = tree.each k ne
+
+same-start : (x y : Option ℕ) → option_eq nat_eq x y ≡ true → x ≡ y
+same-start None None h = refl
+same-start None (Some n) h = absurd cc
+same-start (Some m) None h = absurd cc
+same-start (Some m) (Some n) h = (let e : m ≡ n = grind (arith, nat_tests) in ap (λ (k : ℕ). Some k) e)
+
+-- items whose fields are equal
+pub same-item : (x y : Option TurnItem) → option_eq (λ a b. nat_eq a.session b.session && option_eq nat_eq a.last_start b.last_start) x y ≡ true → x ≡ y
+same-item None None h = refl
+same-item None (Some b) h = absurd cc
+same-item (Some a) None h = absurd cc
+same-item (Some a) (Some b) h = (let parts = both (nat_eq a.session b.session) (option_eq nat_eq a.last_start b.last_start) h in
+    let session : a.session ≡ b.session = equal a.session b.session parts.0 in
+    let start : a.last_start ≡ b.last_start = same-start a.last_start b.last_start parts.1 in
+    λ i. Some (record { session = session i; last_start = start i })) where
+  both : (p q : Bool) → (p && q) ≡ true → (p ≡ true) × (q ≡ true)
+  both true q h = (refl, h)
+  both false q h = absurd cc
+
+  equal : (m n : ℕ) → nat_eq m n ≡ true → m ≡ n
+  equal m n h = grind (arith, nat_tests)
 
 -- another item at a place
 pub with-item : (owns bests : Items) (place : ℕ) (item : Option TurnItem) → IsTree owns bests → IsTreeBut place (set owns place item) bests
@@ -151,10 +182,10 @@ whole n xs ys e = rw e (take-append_seam xs ys)
 pub root-is : (owns bests : Items) → IsTree owns bests → item_at bests 0 ≡ first_of (waiting_in owns)
 root-is owns bests tree = sym (first-is (waiting_in owns) (item_at bests 0) (root-first owns bests tree))
 
-pub root-opened : (owns bests : Items) → IsTree owns bests → IsNumbered owns → (o : Option TurnItem) → o ≡ item_at bests 0 → IfSome o (λ a. IsOpened a owns)
+pub root-opened : (owns bests : Items) → IsTree owns bests → IsNumbered owns → (o : Option TurnItem) → o ≡ item_at bests 0 → IfSome o (λ a. IsOpened a.session owns)
 root-opened owns bests tree is None e = tt
 root-opened owns bests tree is (Some a) e = opened (descend owns bests tree (length bests) 0 a (omega arith) (sym e)) where
-  opened : HasPlace owns a → IsOpened a owns
+  opened : HasPlace owns a → IsOpened a.session owns
   opened p = (let at : a.session ≡ p.place + 1 = is.each p.place a p.is in
     record { counted = omega (arith, at); opened = omega (arith, at, some-inside owns p.place a p.is) })
 

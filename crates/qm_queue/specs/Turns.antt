@@ -28,10 +28,10 @@ turn_of waiting = option_map (λ a. a.session) (first_of waiting)
 abbrev pub waiting_in : List (Option TurnItem) → List TurnItem
 waiting_in sessions = flat_map option_to_list sessions
 
--- the item's session is one of those, which are counted from 1
-pub record IsOpened (item : TurnItem) (sessions : List (Option TurnItem)) : Type 0 where
-  pub counted : 0 < item.session
-  pub opened : item.session ≤ length sessions
+-- the session is one of those, which are counted from 1
+pub record IsOpened (session : ℕ) (sessions : List (Option TurnItem)) : Type 0 where
+  pub counted : 0 < session
+  pub opened : session ≤ length sessions
 
 -- the items without that of a session, which are counted from 1
 abbrev pub without : Option ℕ → List (Option TurnItem) → List (Option TurnItem)

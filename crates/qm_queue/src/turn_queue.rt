@@ -54,13 +54,17 @@ fn best(owns: &[Option<TurnItem>], bests: &[Option<TurnItem>], place: usize) -> 
     )
 }
 
-/// Tells the best of a place, and of all places above it.
+/// Tells the best of a place, and of all places above it that this changes.
 fn settle(owns: &[Option<TurnItem>], bests: &mut [Option<TurnItem>], place: usize)
     requires within { place < length owns.now }
     requires tree { IsTreeBut place owns.now bests.old }
     ensures { IsTree owns.now bests.new }
 {
-    bests[place] = best(owns, bests, place);
+    let best = best(owns, bests, place);
+    if bests[place] == best {
+        return;
+    }
+    bests[place] = best;
     if place > 0 {
         settle(owns, bests, (place - 1) / 2);
     }
@@ -92,7 +96,7 @@ impl TurnQueue {
         Ok(())
     }
 
-    /// Whether the sessions wait and since when: the item of each of them.
+    /// The item of each session, and `None` for one that does not wait.
     pub fn as_slice(&self) -> &[Option<TurnItem>]
         ensures { result.now ≡ self.now }
     {
@@ -102,14 +106,15 @@ impl TurnQueue {
     /// The item that no other precedes.
     fn first(&self) -> Option<TurnItem>
         ensures first { result ≡ first_of (waiting_in self.now) }
-        ensures opened { IfSome result (λ a. IsOpened a self.now) }
+        ensures opened { IfSome result (λ a. IsOpened a.session self.now) }
     {
         at(self.bests.as_slice(), 0)
     }
 
     /// The session that has the turn, as `next_turn` tells it of those that wait.
     pub fn next(&self) -> Option<u32>
-        ensures { result ≡ turn_of (waiting_in self.now) }
+        ensures turn { result ≡ turn_of (waiting_in self.now) }
+        ensures opened { IfSome result (λ session. IsOpened session self.now) }
     {
         self.first().map(|item| item.session)
     }
@@ -125,7 +130,7 @@ impl TurnQueue {
 
     /// Gives a session its item, in place of what it had. It takes no memory.
     pub fn put(&mut self, item: TurnItem)
-        requires { IsOpened item self.old }
+        requires { IsOpened item.session self.old }
         ensures { self.new ≡ set self.old (item.session - 1) (Some item) }
     {
         self.set(item.session as usize - 1, Some(item));
@@ -133,8 +138,7 @@ impl TurnQueue {
 
     /// Takes a session's item from it, if it has one. It takes no memory.
     pub fn remove(&mut self, session: u32)
-        requires counted { 0 < session }
-        requires opened { session ≤ length self.old }
+        requires { IsOpened session self.old }
         ensures { self.new ≡ set self.old (session - 1) None }
     {
         self.set(session as usize - 1, None);
@@ -144,6 +148,7 @@ impl TurnQueue {
     pub fn take(&mut self) -> Option<u32>
         ensures turn { result ≡ turn_of (waiting_in self.old) }
         ensures rest { self.new ≡ without result self.old }
+        ensures opened { IfSome result (λ session. IsOpened session self.new) }
     {
         let item = self.first()?;
         self.remove(item.session);

@@ -1,0 +1,47 @@
+//! Turns of a queue, to be timed; `bench/parts` times them.
+#![tactic(auto)]
+
+mod turns;
+
+use std::io::Write;
+use std::process::ExitCode;
+use std::{env, io};
+use turns::run;
+
+const USAGE: &str = "bench_parts [turns SESSIONS TURNS]";
+
+fn gathered(rt: &HostRuntime) -> io::Result<Vec<String>> {
+    let mut words = Vec::new(rt.alloc());
+    for word in env::args(rt)? {
+        words.push(word)?;
+    }
+    Ok(words)
+}
+
+/// Prints what a run counts. Status 1 is for want of memory.
+fn answer(rt: &HostRuntime, sessions: u16, turns: u64) -> io::Result<ExitCode> {
+    let Ok(count) = run(rt.alloc(), sessions, turns) else {
+        return Ok(ExitCode::from(1));
+    };
+    println!(rt; "{count}")?;
+    Ok(ExitCode::SUCCESS)
+}
+
+fn refused(rt: &HostRuntime) -> io::Result<ExitCode> {
+    eprintln!(rt; "{USAGE}")?;
+    Ok(ExitCode::from(2))
+}
+
+fn main(rt: HostRuntime) -> io::Result<ExitCode> {
+    let words = gathered(&rt)?;
+    match words.as_slice() {
+        [] | [_] => Ok(ExitCode::SUCCESS),
+        [_, way, sessions, turns] if way.as_str() == "turns" => {
+            match (sessions.as_str().parse(), turns.as_str().parse()) {
+                (Ok(sessions), Ok(turns)) => answer(&rt, sessions, turns),
+                _ => refused(&rt),
+            }
+        }
+        _ => refused(&rt),
+    }
+}
