@@ -1,7 +1,9 @@
-//! Worked examples of turns and jobs, given to the calls directly. Tests alone.
+//! Worked examples of turns, jobs and throttled events, given to the calls directly. Tests alone.
 #![tactic(auto)]
 
 #[cfg(test)]
 mod jobs;
+#[cfg(test)]
+mod throttling;
 #[cfg(test)]
 mod turns;

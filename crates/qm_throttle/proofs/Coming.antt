@@ -1,16 +1,16 @@
 -- Deadlines that come at or before a moment.
-use Rattle.std.proofs.Common.{◌≡◌, ℕ, ◌+◌, ◌<◌, ◌≤◌, ◌==◌, nat_le, Bool, true, false, cond, ◌||◌, ◌&&◌, List, [], ◌∷◌, Option, Some, None, refl, ap, sym, ◌∙◌, subst, arith}
+use Rattle.std.proofs.Common.{◌≡◌, ℕ, ◌<◌, ◌==◌, nat_le, Bool, true, false, cond, ◌||◌, ◌&&◌, List, [], ◌∷◌, Option, Some, None, refl, ap, sym, ◌∙◌, subst, arith}
 use Rattle.std.specs.BTreeMap.{is_at}
 use Rattle.std.specs.Cmp.{ranks}
-use Rattle.std.specs.List.{list_any, AllByRecursion}
+use Rattle.std.specs.List.{AllByRecursion}
 use Rattle.std.specs.List.Sorted.{IsStrictlySortedBy}
 use Rattle.std.specs.Ordering.{is_eq, MatchOrdering, nat_cmp, ordering_then}
 use Rattle.std.specs.declared.cmp.Ordering.{Ordering}
 use Rattle.std.specs.declared.cmp.Ordering.TheVariants.{Less, Equal, Greater}
 use Rattle.std.proofs.lemmas.Bool.Decides.{nat_tests}
-use Rattle.std.proofs.lemmas.Map.Keys.{sorted_head, sorted_tail}
-use Rattle.qm_throttle.specs.Deadlines.{due_order, has_due, key_comes, has_come, ends_at, is_due, IsKept}
-use Rattle.qm_throttle.specs.Keys.{key_order, same_key}
+use Rattle.std.proofs.lemmas.Map.Keys.{sorted_head}
+use Rattle.qm_throttle.specs.Deadlines.{due_order, has_due, key_comes, has_come, ends_at, IsKept}
+use Rattle.qm_throttle.specs.Keys.{key_order}
 use Rattle.qm_throttle.specs.Steps.{window_at}
 use Rattle.qm_throttle.specs.declared.due.Due.{Due}
 use Rattle.qm_throttle.specs.declared.keys.Key.{Key}

@@ -1,15 +1,14 @@
 -- Deadlines beside their windows.
-use Rattle.std.proofs.Common.{◌≡◌, ℕ, ◌+◌, ◌<◌, ◌≤◌, ◌==◌, nat_le, Bool, true, false, cond, ◌||◌, List, [], ◌∷◌, ◌++◌, Option, Some, None, refl, ap, sym, ◌∙◌, subst, arith}
+use Rattle.std.proofs.Common.{◌≡◌, ℕ, ◌<◌, ◌==◌, Bool, true, false, cond, List, [], ◌∷◌, Option, Some, None, refl, ap, sym, ◌∙◌, subst, arith}
 use Rattle.std.specs.BTreeMap.{is_at, insert_entry}
-use Rattle.std.specs.List.{flat_map, list_any}
-use Rattle.std.specs.Map.{lookup, keys_of, set_value}
+use Rattle.std.specs.Map.{keys_of, set_value}
 use Rattle.std.specs.Ordering.{is_eq, match_ordering, MatchOrdering, nat_cmp, ordering_then}
 use Rattle.std.specs.declared.cmp.Ordering.{Ordering}
 use Rattle.std.specs.declared.cmp.Ordering.TheVariants.{Less, Equal, Greater}
 use Rattle.std.specs.Cmp.{ranks}
 use Rattle.std.specs.List.Sorted.{IsStrictlySortedBy}
 use Rattle.std.proofs.lemmas.Bool.Decides.{nat_tests}
-use Rattle.qm_throttle.specs.Deadlines.{due_order, due_total, has_due, ends_at, is_due, Lasts, IsKept}
+use Rattle.qm_throttle.specs.Deadlines.{due_order, has_due, ends_at, is_due, Lasts, IsKept}
 use Rattle.qm_throttle.specs.Keys.{key_order, same_key}
 use Rattle.qm_throttle.specs.Steps.{Stepped, window_at, keeping, kept_in, kept_at, unkept, opened_by, behind, raised_among}
 use Rattle.qm_throttle.specs.declared.due.Due.{Due}

@@ -1,6 +1,6 @@
 -- The periods of events, and what an event raised does.
 use Rattle.std.proofs.Common.{◌≡◌, ◌≢◌, ◌↔◌, ℕ, zero, suc, ◌<◌, ◌==◌, Bool, true, false, cond, not, ◌&&◌, ◌||◌, List, [], ◌∷◌, length, map, get_or, Option, Some, None, refl, ap, sym, ◌∙◌, subst, arith}
-use Rattle.std.specs.List.{list_any, slice_get}
+use Rattle.std.specs.List.{list_any}
 use Rattle.std.specs.Option.{option_to_list}
 use Rattle.std.specs.Prelude.{IsTrue}
 use Rattle.std.specs.Str.{bytes_eq}
@@ -16,7 +16,6 @@ use Rattle.qm_throttle.specs.Steps.{Throttling, Does, IsHeld, Stepped, raised_in
 use Rattle.qm_throttle.specs.Windows.{event_of, raise_of}
 use Rattle.qm_throttle.specs.declared.keys.Key.{Key}
 use Rattle.qm_throttle.specs.declared.sent.Sent.{Sent}
-use Rattle.qm_throttle.specs.declared.window.Window.{Window}
 
 apart_at : (name : List ℕ) (ps : List Period) (i : ℕ) (p : Period) → i < length ps → p ≡ get_or ps i p → list_any (λ other. bytes_eq other name) (map (λ p. p.name) ps) ≡ false → bytes_eq p.name name ≡ false
 apart_at name [] i p h is none = absurd (omega (arith, h))

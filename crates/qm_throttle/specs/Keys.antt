@@ -1,5 +1,5 @@
 -- The keys of events, and their order (this project's own rule).
-use Rattle.std.specs.Prelude.{◌≡◌, ℕ, Bool, cond, List, [], ◌∷◌, map, codes, slice_get, Option, Some, None}
+use Rattle.std.specs.Prelude.{ℕ, Bool, cond, List, [], ◌∷◌, map, codes, slice_get, Option, Some, None}
 use Rattle.std.specs.Cmp.{IsTotalOrder, then_total}
 use Rattle.std.specs.Cmp.Lexicographic.{slice_cmp, on_texts}
 use Rattle.std.specs.Ordering.{nat_cmp, ordering_then, match_ordering, is_eq}

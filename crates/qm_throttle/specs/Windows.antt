@@ -2,7 +2,6 @@
 use Rattle.std.specs.Prelude.{ℕ, zero, suc, ◌+◌, ◌==◌, nat_le, min, Bool, true, cond, List, [], ◌∷◌, ◌++◌, length, map, take, drop, filter, Option, Some, None}
 use Rattle.std.specs.List.{flat_map}
 use Rattle.std.specs.Option.{option_map, option_to_list}
-use Rattle.qm_json.specs.declared.value.Json.{Json}
 use Rattle.qm_plan.specs.declared.events.Period.{Period}
 use Rattle.qm_plan.specs.declared.events.Raised.{Raised}
 use Rattle.qm_throttle.specs.Keys.{key_of, same_key, with_key, period_of}

@@ -1,5 +1,4 @@
-use Rattle.std.proofs.Common.{◌≡◌, ◌≢◌, ◌↔◌, ◌∷◌, [], List, None, Some, get_or, map, ap, sym, ◌∙◌, subst, rules, arith}
-use Rattle.std.specs.Option.{option_to_list}
+use Rattle.std.proofs.Common.{◌≡◌, ◌≢◌, ◌↔◌, ◌∷◌, [], List, None, Some, get_or, map, ap, sym, ◌∙◌, subst, rules}
 use Rattle.std.specs.Prelude.{IsTrue}
 use Rattle.qm_json.specs.Cleanness.{are_distinct}
 use Rattle.qm_plan.specs.declared.events.Period.{Period}
@@ -9,7 +8,7 @@ use Rattle.qm_throttle.specs.Windows.{event_of, raise_of}
 use Rattle.qm_throttle.specs.declared.keys.Key.{Key}
 use Rattle.qm_throttle.specs.declared.sent.Sent.{Sent}
 use Rattle.qm_throttle.specs.declared.window.Window.{Window}
-use Rattle.qm_throttle.proofs.Periods.{IsOf, period_found, sent_at_once, not_held, raised_as, held_where}
+use Rattle.qm_throttle.proofs.Periods.{period_found, sent_at_once, not_held, raised_as, held_where}
 use Rattle.qm_throttle.proofs.throttle.Throttle.raise_in.Goals as goal
 
 pub returns-then-micros-eq0-clause-ok : goal.returns-then-micros-eq0-clause-ok

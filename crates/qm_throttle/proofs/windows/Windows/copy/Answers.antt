@@ -1,4 +1,4 @@
-use Rattle.std.proofs.Common.{◌≡◌, ◌∷◌, None, ◌<◌, ◌++◌, List, ap, sym, ◌∙◌, subst, rules}
+use Rattle.std.proofs.Common.{◌≡◌, None, ◌<◌, ◌++◌, List, ap, sym, ◌∙◌, subst, rules}
 use Rattle.std.specs.BTreeMap.{insert_entry}
 use Rattle.qm_throttle.specs.Keys.{key_order}
 use Rattle.qm_throttle.specs.Steps.{window_at}

@@ -1,4 +1,4 @@
-use Rattle.std.proofs.Common.{◌≡◌, length, ap, sym, ◌∙◌, arith, rules}
+use Rattle.std.proofs.Common.{◌≡◌, length, ap, sym, ◌∙◌, rules}
 use Rattle.qm_throttle.specs.Windows.{due_in}
 use Rattle.qm_throttle.proofs.Firsts.{first_due, no_due}
 use Rattle.qm_throttle.proofs.windows.Windows.due.Goals as goal

@@ -1,4 +1,4 @@
-use Rattle.std.proofs.Common.{◌≡◌, None, rules, cond, true, false, ap, sym, ◌∙◌}
+use Rattle.std.proofs.Common.{◌≡◌, None, rules, cond, true, false, ap, ◌∙◌}
 use Rattle.std.specs.BTreeMap.{is_at}
 use Rattle.qm_throttle.specs.Deadlines.{has_due, due_order}
 use Rattle.qm_throttle.specs.Steps.{window_at}

@@ -1,8 +1,5 @@
 use Rattle.std.proofs.Common.{List, sym, ◌∙◌, subst}
-use Rattle.std.specs.List.Sorted.{IsStrictlySortedBy}
-use Rattle.std.specs.Map.{keys_of}
 use Rattle.qm_throttle.specs.Deadlines.{IsKept}
-use Rattle.qm_throttle.specs.Keys.{key_order}
 use Rattle.qm_throttle.specs.declared.keys.Key.{Key}
 use Rattle.qm_throttle.specs.declared.window.Window.{Window}
 use Rattle.qm_throttle.proofs.Ticking.{IsPlan, kept_ticked, none_there}
