@@ -1,13 +1,13 @@
-ghost use Rattle.std.specs.Prelude.{◌≡◌, ◌+◌, ◌&&◌, ◌||◌, nat_lt, ◌==◌, ◌≤◌, true, false, length, IfSome, IfNone};
-ghost use Rattle.std.specs.Str.Parse.{signed_digits_value};
+ghost use Rattle.std.specs.Prelude.{◌≡◌, ◌≤◌, true, false, length, IfSome, IfNone};
 ghost use Rattle.std.specs.Char.{is_ascii_digit};
 ghost use Rattle.std.specs.List.{list_all};
-ghost use Rattle.qm_json.specs.Numbers.{digits_len as length_of_digits, is_digits as digits, is_whole_part as whole_part, after_sign as without_sign, is_exponent as exponent, is_fraction as fraction, after_minus as without_minus, is_unsigned_literal as unsigned_literal, is_literal as literal, is_in_whole_range as in_whole_range, whole_of as whole};
+ghost use Rattle.std.specs.Str.Parse.{signed_digits_value};
+ghost use Rattle.qm_json.specs.Numbers as numbers;
 
 use crate::spans::{Span, span_length};
 
 fn digits_len(text: &[u8]) -> usize
-    ensures value { result ≡ length_of_digits text.now }
+    ensures value { result ≡ numbers.digits_len text.now }
     ensures within { result ≤ length text.now }
 {
     span_length(Span::Digit, text)
@@ -20,13 +20,13 @@ fn are_digits(text: &[u8]) -> bool
 }
 
 fn is_digits(text: &[u8]) -> bool
-    ensures { result ≡ digits text.now }
+    ensures { result ≡ numbers.is_digits text.now }
 {
     text.len() > 0 && are_digits(text)
 }
 
 fn is_whole_part(text: &[u8]) -> bool
-    ensures { result ≡ whole_part text.now }
+    ensures { result ≡ numbers.is_whole_part text.now }
 {
     match text {
         [] => false,
@@ -36,7 +36,7 @@ fn is_whole_part(text: &[u8]) -> bool
 
 /// The text without a sign at its front.
 fn after_sign(text: &[u8]) -> &[u8]
-    ensures { result.now ≡ without_sign text.now }
+    ensures { result.now ≡ numbers.after_sign text.now }
 {
     match text {
         [] => text,
@@ -52,7 +52,7 @@ fn after_sign(text: &[u8]) -> &[u8]
 
 /// Whether the text is empty or an exponent.
 fn is_exponent(text: &[u8]) -> bool
-    ensures { result ≡ exponent text.now }
+    ensures { result ≡ numbers.is_exponent text.now }
 {
     match text {
         [] => true,
@@ -62,7 +62,7 @@ fn is_exponent(text: &[u8]) -> bool
 
 /// Whether the text is empty, a fraction, an exponent or both.
 fn is_fraction(text: &[u8]) -> bool
-    ensures { result ≡ fraction text.now }
+    ensures { result ≡ numbers.is_fraction text.now }
 {
     match text {
         [] => true,
@@ -79,7 +79,7 @@ fn is_fraction(text: &[u8]) -> bool
 
 /// The text without a minus at its front.
 fn after_minus(text: &[u8]) -> &[u8]
-    ensures { result.now ≡ without_minus text.now }
+    ensures { result.now ≡ numbers.after_minus text.now }
 {
     match text {
         [] => text,
@@ -88,7 +88,7 @@ fn after_minus(text: &[u8]) -> &[u8]
 }
 
 fn is_unsigned_literal(text: &[u8]) -> bool
-    ensures { result ≡ unsigned_literal text.now }
+    ensures { result ≡ numbers.is_unsigned_literal text.now }
 {
     let count = digits_len(text);
     is_whole_part(&text[..count]) && is_fraction(&text[count..])
@@ -96,16 +96,16 @@ fn is_unsigned_literal(text: &[u8]) -> bool
 
 /// Whether the text is the literal of a number (RFC 8259, section 6).
 pub fn is_literal(text: &[u8]) -> bool
-    ensures { result ≡ literal text.now }
+    ensures { result ≡ numbers.is_literal text.now }
 {
     is_unsigned_literal(after_minus(text))
 }
 
 /// The number that a sign and digits write, which 128 bits hold.
 fn parsed(text: &[u8]) -> Option<i128>
-    requires { whole_part (without_minus text.now) ≡ true }
+    requires { numbers.is_whole_part (numbers.after_minus text.now) ≡ true }
     ensures some { IfSome result (λ n. n ≡ signed_digits_value 10 text.now) }
-    ensures none { IfNone result (in_whole_range (signed_digits_value 10 text.now) ≡ false) }
+    ensures none { IfNone result (numbers.is_in_whole_range (signed_digits_value 10 text.now) ≡ false) }
 {
     match str::from_utf8(text) {
         Ok(text) => match text.parse::<i128>() {
@@ -117,14 +117,14 @@ fn parsed(text: &[u8]) -> Option<i128>
 }
 
 fn is_in_whole_range(number: i128) -> bool
-    ensures { result ≡ in_whole_range number }
+    ensures { result ≡ numbers.is_in_whole_range number }
 {
     -9_223_372_036_854_775_808 <= number && number < 18_446_744_073_709_551_616
 }
 
 /// The whole number of a literal, where it is kept as one.
 pub fn whole_of(text: &[u8]) -> Option<i128>
-    ensures { result ≡ whole text.now }
+    ensures { result ≡ numbers.whole_of text.now }
 {
     if !is_whole_part(after_minus(text)) {
         return None;
