@@ -1,5 +1,5 @@
 -- The tree over the places of a list: one place told, one place more, and what its root tells.
-use Rattle.std.proofs.Common.{◌≡◌, ◌≢◌, ℕ, ◌+◌, ◌-◌, ◌*◌, ◌/◌, ◌%◌, ◌<◌, ◌≤◌, zero, suc, List, [], ◌∷◌, ◌++◌, length, get_or, IfSome, take, drop, Option, Some, None, option_to_list, flat_map, Bool, true, false, nat_eq, ◌&&◌, refl, ap, sym, ◌∙◌, subst, arith, length-append, ◌⊎◌, inl, inr}
+use Rattle.std.proofs.Common.{◌≡◌, ◌≢◌, ℕ, ◌+◌, ◌-◌, ◌*◌, ◌/◌, ◌<◌, ◌≤◌, zero, suc, List, [], ◌∷◌, ◌++◌, length, IfSome, take, Option, Some, None, Bool, true, false, nat_eq, ◌&&◌, refl, ap, sym, ◌∙◌, subst, arith, length-append, ◌⊎◌, inl, inr}
 use Rattle.std.proofs.Math.ListN.{set, length-set}
 use Rattle.std.proofs.Math.Seq.{take-append_seam}
 use Rattle.std.proofs.lemmas.Bool.{cases_eq}
@@ -42,14 +42,14 @@ pub told-below : (owns bests : Items) (place : ℕ) → IsTreeBut place owns bes
     IsTreeBut ((place - 1) / 2) owns (set bests place (best_below owns bests place))
 told-below owns bests place tree within below = record {
   same = length-set bests place (best_below owns bests place) ∙ tree.same;
-  each = λ k ne. told owns bests place k tree within (omega arith) (omega arith)
+  each = λ k ne. told owns bests place k tree within (omega arith) (omega arith);
 }
 
 pub told-first : (owns bests : Items) (place : ℕ) → IsTreeBut place owns bests → place < length bests → place ≡ 0 →
     IsTree owns (set bests place (best_below owns bests place))
 told-first owns bests place tree within first = record {
   same = length-set bests place (best_below owns bests place) ∙ tree.same;
-  each = λ k. told owns bests place k tree within (omega arith) (omega arith)
+  each = λ k. told owns bests place k tree within (omega arith) (omega arith);
 }
 
 -- a place told already
@@ -74,19 +74,19 @@ same-item (Some a) (Some b) h = (let parts = both (nat_eq a.session b.session) (
     let session : a.session ≡ b.session = equal a.session b.session parts.0 in
     let start : a.last_start ≡ b.last_start = same-start a.last_start b.last_start parts.1 in
     λ i. Some (record { session = session i; last_start = start i })) where
-  both : (p q : Bool) → (p && q) ≡ true → (p ≡ true) × (q ≡ true)
-  both true q h = (refl, h)
-  both false q h = absurd cc
+      both : (p q : Bool) → (p && q) ≡ true → (p ≡ true) × (q ≡ true)
+      both true q h = (refl, h)
+      both false q h = absurd cc
 
-  equal : (m n : ℕ) → nat_eq m n ≡ true → m ≡ n
-  equal m n h = grind (arith, nat_tests)
+      equal : (m n : ℕ) → nat_eq m n ≡ true → m ≡ n
+      equal m n h = grind (arith, nat_tests)
 
 -- another item at a place
 pub with-item : (owns bests : Items) (place : ℕ) (item : Option TurnItem) → IsTree owns bests → IsTreeBut place (set owns place item) bests
 with-item owns bests place item tree = record {
   same = tree.same ∙ sym (length-set owns place item);
   each = λ k ne. tree.each k
-    ∙ ap (λ (x : Option TurnItem). earlier_of x (earlier_of (item_at bests (2 * k + 1)) (item_at bests (2 * k + 2)))) (sym (get_or-set_other owns place k item None ne))
+      ∙ ap (λ (x : Option TurnItem). earlier_of x (earlier_of (item_at bests (2 * k + 1)) (item_at bests (2 * k + 2)))) (sym (get_or-set_other owns place k item None ne));
 }
 
 at-more : (xs : Items) (k : ℕ) → item_at (xs ++ None ∷ []) k ≡ item_at xs k
@@ -99,7 +99,7 @@ at-more (x ∷ xs) (suc k) = at-more xs k
 pub tree-more : (owns bests : Items) → IsTree owns bests → IsTree (owns ++ None ∷ []) (bests ++ None ∷ [])
 tree-more owns bests tree = record {
   same = simp length-append (ap (λ (n : ℕ). n + 1) tree.same);
-  each = λ k. at-more bests k ∙ tree.each k ∙ sym (below k)
+  each = λ k. at-more bests k ∙ tree.each k ∙ sym (below k);
 } where
   below : (k : ℕ) → best_below (owns ++ None ∷ []) (bests ++ None ∷ []) k ≡ best_below owns bests k
   below k = rw (at-more owns k, at-more bests (2 * k + 1), at-more bests (2 * k + 2)) refl
@@ -121,10 +121,10 @@ climb owns bests tree (suc n) (suc j) b low h =
       either : (2 * (j / 2) ≡ j) ⊎ (2 * (j / 2) ≢ j) → Leads (best_below owns bests (j / 2)) b
       either (inl e) =
           earlier-right (item_at owns (j / 2)) _ b (earlier-left (item_at bests (2 * (j / 2) + 1)) (item_at bests (2 * (j / 2) + 2)) b
-            (let is : suc j ≡ 2 * (j / 2) + 1 = omega (arith, e) in subst (λ (i : ℕ). Leads (item_at bests i) b) is h))
+          (let is : suc j ≡ 2 * (j / 2) + 1 = omega (arith, e) in subst (λ (i : ℕ). Leads (item_at bests i) b) is h))
       either (inr ne) =
           earlier-right (item_at owns (j / 2)) _ b (earlier-right (item_at bests (2 * (j / 2) + 1)) (item_at bests (2 * (j / 2) + 2)) b
-            (let is : suc j ≡ 2 * (j / 2) + 2 = omega (arith, ne) in subst (λ (i : ℕ). Leads (item_at bests i) b) is h))
+          (let is : suc j ≡ 2 * (j / 2) + 2 = omega (arith, ne) in subst (λ (i : ℕ). Leads (item_at bests i) b) is h))
 
 -- a place with this item
 record HasPlace (owns : Items) (a : TurnItem) : Type 0 where
@@ -165,13 +165,13 @@ place-of (Some x ∷ owns) a h = either h (place-of owns a) where
 pub root-first : (owns bests : Items) → IsTree owns bests → IsFirst (waiting_in owns) (item_at bests 0)
 root-first owns bests tree = record {
   leads = λ b h. leading b (place-of owns b h);
-  among = λ a h. standing a (descend owns bests tree (length bests) 0 a (omega arith) h)
+  among = λ a h. standing a (descend owns bests tree (length bests) 0 a (omega arith) h);
 } where
   leading : (b : TurnItem) → HasPlace owns b → Leads (item_at bests 0) b
   leading b p =
       climb owns bests tree p.place p.place b (omega arith)
-        (subst (λ (o : Option TurnItem). Leads o b) (sym (tree.each p.place))
-          (earlier-left (item_at owns p.place) _ b (subst (λ (o : Option TurnItem). Leads o b) (sym p.is) (leads-self b))))
+      (subst (λ (o : Option TurnItem). Leads o b) (sym (tree.each p.place))
+      (earlier-left (item_at owns p.place) _ b (subst (λ (o : Option TurnItem). Leads o b) (sym p.is) (leads-self b))))
 
   standing : (a : TurnItem) → HasPlace owns a → Among a (waiting_in owns)
   standing a p = among-waiting owns p.place a p.is
@@ -187,7 +187,7 @@ root-opened owns bests tree is None e = tt
 root-opened owns bests tree is (Some a) e = opened (descend owns bests tree (length bests) 0 a (omega arith) (sym e)) where
   opened : HasPlace owns a → IsOpened a.session owns
   opened p = (let at : a.session ≡ p.place + 1 = is.each p.place a p.is in
-    record { counted = omega (arith, at); opened = omega (arith, at, some-inside owns p.place a p.is) })
+      record { counted = omega (arith, at); opened = omega (arith, at, some-inside owns p.place a p.is) })
 
 -- another item at a place, of the session of that place
 pub numbered-with : (owns : Items) (place : ℕ) (item : Option TurnItem) → place < length owns → IfSome item (λ a. a.session ≡ place + 1) → IsNumbered owns → IsNumbered (set owns place item)

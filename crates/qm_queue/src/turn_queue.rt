@@ -29,29 +29,31 @@ impl Model for TurnQueue {
     ghost invariant = { λ q. IsTree q.owns.items q.bests.items × IsNumbered q.owns.items };
 }
 
-/// What stands at a place, and none past the end.
-fn at(items: &[Option<TurnItem>], place: usize) -> Option<TurnItem>
-    ensures { result ≡ item_at items.now place }
+/// The best of a place's own item and of the two below it.
+fn best(owns: &[Option<TurnItem>], bests: &[Option<TurnItem>], place: usize) -> Option<TurnItem>
+    requires within { place < length owns.now }
+    requires same { length bests.now ≡ length owns.now }
+    ensures { result ≡ best_below owns.now bests.now place }
 {
-    match items.get(place) {
-        Some(item) => *item,
-        None => None,
+    let own = &owns[place];
+    if place >= owns.len() / 2 {
+        return *own;
+    }
+    let left = &bests[2 * place + 1];
+    match bests.get(2 * place + 2) {
+        Some(right) => *earlier(own, earlier(left, right)),
+        None => *earlier(own, left),
     }
 }
 
-/// The best of a place's own item and of the two below it.
-fn best(owns: &[Option<TurnItem>], bests: &[Option<TurnItem>], place: usize) -> Option<TurnItem>
-    requires { length bests.now ≡ length owns.now }
-    ensures { result ≡ best_below owns.now bests.now place }
+/// What the first place tells, and none without one.
+fn root(bests: &[Option<TurnItem>]) -> Option<TurnItem>
+    ensures { result ≡ item_at bests.now 0 }
 {
-    let own = at(owns, place);
-    if place >= owns.len() / 2 {
-        return own;
+    match bests.first() {
+        Some(item) => *item,
+        None => None,
     }
-    earlier(
-        own,
-        earlier(at(bests, 2 * place + 1), at(bests, 2 * place + 2)),
-    )
 }
 
 /// Tells the best of a place, and of all places above it that this changes.
@@ -108,7 +110,7 @@ impl TurnQueue {
         ensures first { result ≡ first_of (waiting_in self.now) }
         ensures opened { IfSome result (λ a. IsOpened a.session self.now) }
     {
-        at(self.bests.as_slice(), 0)
+        root(self.bests.as_slice())
     }
 
     /// The session that has the turn, as `next_turn` tells it of those that wait.

@@ -1,5 +1,5 @@
 ghost use Rattle.std.specs.Prelude.{◌≡◌};
-ghost use Rattle.qm_queue.specs.Turns.{precedes, earlier_of, first_of, starts_earlier as is_earlier, turn_of};
+ghost use Rattle.qm_queue.specs.Turns.{precedes, earlier_of, first_of, turn_of};
 
 use qm_base::GrowingList;
 
@@ -16,36 +16,28 @@ pub struct TurnItem {
 /// Sessions that wait.
 pub type TurnList = GrowingList<TurnItem>;
 
-/// Whether the one last start stands earlier than the other; none comes before all.
-fn starts_earlier(one: Option<u64>, other: Option<u64>) -> bool
-    ensures { result ≡ is_earlier one other }
-{
-    match (one, other) {
-        (None, Some(_)) => true,
-        (Some(one), Some(other)) => one < other,
-        _ => false,
-    }
-}
-
 /// Whether the one has its turn before the other.
 fn comes_before(one: &TurnItem, other: &TurnItem) -> bool
     ensures { result ≡ precedes one.now other.now }
 {
-    if starts_earlier(one.last_start, other.last_start) {
-        return true;
+    match (one.last_start, other.last_start) {
+        (None, Some(_)) => true,
+        (Some(_), None) => false,
+        (None, None) => one.session < other.session,
+        (Some(first), Some(second)) => first < second
+            || (first == second && one.session < other.session),
     }
-    if starts_earlier(other.last_start, one.last_start) {
-        return false;
-    }
-    one.session < other.session
 }
 
 /// The item of the two that has its turn before the other.
-pub(crate) fn earlier(one: Option<TurnItem>, other: Option<TurnItem>) -> Option<TurnItem>
-    ensures { result ≡ earlier_of one other }
+pub(crate) fn earlier<'a>(
+    one: &'a Option<TurnItem>,
+    other: &'a Option<TurnItem>,
+) -> &'a Option<TurnItem>
+    ensures { result.now ≡ earlier_of one.now other.now }
 {
     match (one, other) {
-        (Some(a), Some(b)) => { if comes_before(&b, &a) { other } else { one } }
+        (Some(a), Some(b)) => { if comes_before(b, a) { other } else { one } }
         (None, _) => other,
         (Some(_), None) => one,
     }
@@ -57,7 +49,7 @@ fn first_among(waiting: &[TurnItem]) -> Option<TurnItem>
 {
     let mut first: Option<TurnItem> = None;
     for item in waiting {
-        first = earlier(first, Some(*item));
+        first = *earlier(&first, &Some(*item));
     }
     first
 }

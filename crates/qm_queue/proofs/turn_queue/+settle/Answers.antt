@@ -1,4 +1,4 @@
-use Rattle.std.proofs.Common.{◌≡◌, ◌<◌, ◌∙◌, sym, subst, arith, length, Option, rules}
+use Rattle.std.proofs.Common.{◌<◌, ◌∙◌, sym, arith, length}
 use Rattle.qm_queue.proofs.Settling.{told-already, same-item, told-below, told-first}
 use Rattle.qm_queue.proofs.turn_queue.+settle.Goals as goal
 

@@ -5,8 +5,9 @@ use Rattle.qm_queue.proofs.turn_queue.TurnQueue.set.Goals as goal
 pub invariant_of-self : goal.invariant_of-self
 invariant_of-self c =
     let bests : take c.self.inside.bests.len (c.settle.new.bests ++ drop (length c.settle.new.bests) c.self.inside.bests.items) ≡ c.settle.new.bests =
-      whole c.self.inside.bests.len c.settle.new.bests _ (omega arith) in
+    whole c.self.inside.bests.len c.settle.new.bests _ (omega arith) in
     let within = rw (← c.self.view_is) at c.requires.within in
-    rw bests
-      (rw c.as_slice.ensures.value at c.settle.ensures,
-        numbered-with c.self.inside.owns.items c.args.place c.args.item within c.requires.numbered c.self.invariant.1)
+    rw bests (
+      rw c.as_slice.ensures.value at c.settle.ensures,
+      numbered-with c.self.inside.owns.items c.args.place c.args.item within c.requires.numbered c.self.invariant.1,
+    )
