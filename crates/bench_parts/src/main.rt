@@ -1,14 +1,15 @@
-//! Turns of a queue, to be timed; `bench/parts` times them.
+//! Turns of a queue and raises of throttled events, to be timed; `bench/parts` times them.
 #![tactic(auto)]
 
+mod raises;
 mod turns;
 
+use qm_base::NoMemory;
 use std::io::Write;
 use std::process::ExitCode;
 use std::{env, io};
-use turns::run;
 
-const USAGE: &str = "bench_parts [turns SESSIONS TURNS]";
+const USAGE: &str = "bench_parts [turns SESSIONS TURNS | raises PORTS RAISES]";
 
 fn gathered(rt: &HostRuntime) -> io::Result<Vec<String>> {
     let mut words = Vec::new(rt.alloc());
@@ -19,8 +20,8 @@ fn gathered(rt: &HostRuntime) -> io::Result<Vec<String>> {
 }
 
 /// Prints what a run counts. Status 1 is for want of memory.
-fn answer(rt: &HostRuntime, sessions: u16, turns: u64) -> io::Result<ExitCode> {
-    let Ok(count) = run(rt.alloc(), sessions, turns) else {
+fn answer(rt: &HostRuntime, counted: Result<u64, NoMemory>) -> io::Result<ExitCode> {
+    let Ok(count) = counted else {
         return Ok(ExitCode::from(1));
     };
     println!(rt; "{count}")?;
@@ -38,7 +39,13 @@ fn main(rt: HostRuntime) -> io::Result<ExitCode> {
         [] | [_] => Ok(ExitCode::SUCCESS),
         [_, way, sessions, turns] if way.as_str() == "turns" => {
             match (sessions.as_str().parse(), turns.as_str().parse()) {
-                (Ok(sessions), Ok(turns)) => answer(&rt, sessions, turns),
+                (Ok(sessions), Ok(turns)) => answer(&rt, turns::run(rt.alloc(), sessions, turns)),
+                _ => refused(&rt),
+            }
+        }
+        [_, way, ports, raises] if way.as_str() == "raises" => {
+            match (ports.as_str().parse(), raises.as_str().parse()) {
+                (Ok(ports), Ok(raises)) => answer(&rt, raises::run(rt.alloc(), ports, raises)),
                 _ => refused(&rt),
             }
         }
