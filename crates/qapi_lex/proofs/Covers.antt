@@ -1,20 +1,13 @@
 -- The account by cases tells of each text.
 use Rattle.std.proofs.Common.{◌≡◌, ℕ, ◌≤◌, ◌==◌, nat_eq, Bool, true, false, cond, zero, suc, List, [], ◌∷◌, ◌++◌, drop, length, Result, Ok, Err, refl, ap, sym, ◌∙◌, subst, arith}
 use Rattle.std.specs.List.{list_all, starts_with}
-use Rattle.std.proofs.lemmas.Bool.Decides.{nat_tests, Decides-eqb}
-use Rattle.std.proofs.lemmas.List.{length-drop}
-use Rattle.std.proofs.lemmas.Slice.Eq.{starts_is}
-use Rattle.qapi_lex.specs.declared.fault.LexFault.{LexFault}
-use Rattle.qapi_lex.specs.declared.fault.LexFault.TheVariants.{BadByte}
-use Rattle.qapi_lex.specs.declared.spot.Spot.{Spot}
-use Rattle.qapi_lex.specs.declared.token.Token.{Token}
+use Rattle.std.proofs.lemmas.{Bool.Decides.nat_tests, Bool.Decides.Decides-eqb, List.length-drop, Slice.Eq.starts_is}
+use Rattle.qapi_lex.specs.declared.{fault.LexFault.LexFault, fault.LexFault.TheVariants.BadByte, spot.Spot.Spot, token.Token.Token}
 use Rattle.qapi_lex.specs.declared.token.TokenKind.TheVariants.{Mark, Flag, Str}
 use Rattle.qm_base.specs.Bytes.{is_space}
-use Rattle.qapi_lex.specs.Pieces.{is_mark}
-use Rattle.qapi_lex.specs.Spots.{beginning, after_byte, after_bytes}
+use Rattle.qapi_lex.specs.{Pieces.is_mark, Spots.beginning, Spots.after_byte, Spots.after_bytes}
 use Rattle.qapi_lex.specs.Splitting.{is_plain, written, word, is_no_line_end, IsLineEnd, before, Cuts, at_end, at_line_end, escape_at_end, no_escape, no_byte, Lexes, nothing, space, comment, mark, flag, string, cut, bad_byte}
-use Rattle.qapi_lex.specs.Strings.{is_printable}
-use Rattle.qapi_lex.specs.Tokens.{tokens_of}
+use Rattle.qapi_lex.specs.{Strings.is_printable, Tokens.tokens_of}
 use Rattle.qapi_lex.proofs.Splits.{splits-lexed}
 
 choose : {A : Type 0} (b : Bool) → (b ≡ true → A) → (b ≡ false → A) → A

@@ -1,13 +1,8 @@
 -- One piece of a text, and what follows it.
 use Rattle.std.proofs.Common.{◌≡◌, ℕ, ◌+◌, ◌<◌, ◌≤◌, zero, suc, List, [], ◌∷◌, ◌++◌, take, drop, length, Result, Ok, Err, refl, ap, sym, ◌∙◌, arith, append_assoc, append-nil, slice_index}
-use Rattle.std.proofs.lemmas.List.{drop-drop}
-use Rattle.std.proofs.Math.ListN.{drop_of_length-le}
-use Rattle.qapi_lex.specs.declared.fault.LexFault.{LexFault}
-use Rattle.qapi_lex.specs.declared.piece.Piece.{Piece}
-use Rattle.qapi_lex.specs.declared.spot.Spot.{Spot}
-use Rattle.qapi_lex.specs.declared.token.Token.{Token}
-use Rattle.qapi_lex.specs.Pieces.{piece, more_in}
-use Rattle.qapi_lex.specs.Spots.{after_byte, after_bytes}
+use Rattle.std.proofs.{lemmas.List.drop-drop, Math.ListN.drop_of_length-le}
+use Rattle.qapi_lex.specs.declared.{fault.LexFault.LexFault, piece.Piece.Piece, spot.Spot.Spot, token.Token.Token}
+use Rattle.qapi_lex.specs.{Pieces.piece, Pieces.more_in, Spots.after_byte, Spots.after_bytes}
 use Rattle.qapi_lex.specs.Tokens.{tokens_in, followed_by, after_piece, tokens_after}
 
 passed : (k : ℕ) (s : Spot) (rest : List ℕ) → tokens_after k s rest ≡ tokens_after 0 (after_bytes s (take k rest)) (drop k rest)

@@ -2,17 +2,11 @@
 -- cases, which no code follows (QAPI code generation guide, "Schema syntax").
 use Rattle.std.specs.Prelude.{◌≡◌, ℕ, ◌==◌, Bool, true, false, not, cond, ◌&&◌, ◌||◌, nat_eq, List, [], ◌∷◌, ◌++◌, codes, Result, Ok, Err}
 use Rattle.std.specs.List.{list_all, starts_with}
-use Rattle.qapi_lex.specs.declared.fault.LexFault.{LexFault}
-use Rattle.qapi_lex.specs.declared.fault.LexFault.TheVariants.{BadByte, BadEscape, Unclosed}
-use Rattle.qapi_lex.specs.declared.spot.Spot.{Spot}
-use Rattle.qapi_lex.specs.declared.token.Token.{Token}
-use Rattle.qapi_lex.specs.declared.token.TokenKind.{TokenKind}
+use Rattle.qapi_lex.specs.declared.fault.LexFault.{LexFault, TheVariants.BadByte, TheVariants.BadEscape, TheVariants.Unclosed}
+use Rattle.qapi_lex.specs.declared.{spot.Spot.Spot, token.Token.Token, token.TokenKind.TokenKind}
 use Rattle.qapi_lex.specs.declared.token.TokenKind.TheVariants.{Mark, Flag, Str}
 use Rattle.qm_base.specs.Bytes.{is_space}
-use Rattle.qapi_lex.specs.Pieces.{is_mark}
-use Rattle.qapi_lex.specs.Spots.{after_byte, after_bytes}
-use Rattle.qapi_lex.specs.Strings.{is_printable}
-use Rattle.qapi_lex.specs.Tokens.{followed_by}
+use Rattle.qapi_lex.specs.{Pieces.is_mark, Spots.after_byte, Spots.after_bytes, Strings.is_printable, Tokens.followed_by}
 
 -- a byte that a string may have: a printable one but the quote (39)
 abbrev pub is_plain : ℕ → Bool

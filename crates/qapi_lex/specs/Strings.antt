@@ -1,10 +1,8 @@
 -- Strings of a schema: single quotes, bytes 0x20 to 0x7E, and `\\` as the only escape (QAPI code
 -- generation guide, "Schema syntax"; which fault is told is this project's own rule).
 use Rattle.std.specs.Prelude.{ℕ, ◌+◌, ◌==◌, nat_le, Bool, true, false, cond, ◌&&◌, List, [], ◌∷◌, ◌++◌, Result, Ok, Err}
-use Rattle.qapi_lex.specs.declared.fault.LexFault.{LexFault}
-use Rattle.qapi_lex.specs.declared.fault.LexFault.TheVariants.{BadByte, BadEscape, Unclosed}
-use Rattle.qapi_lex.specs.declared.quoted.Quoted.{Quoted}
-use Rattle.qapi_lex.specs.declared.quoted.Role.{Role}
+use Rattle.qapi_lex.specs.declared.fault.LexFault.{LexFault, TheVariants.BadByte, TheVariants.BadEscape, TheVariants.Unclosed}
+use Rattle.qapi_lex.specs.declared.quoted.{Quoted.Quoted, Role.Role}
 use Rattle.qapi_lex.specs.declared.quoted.Role.TheVariants.{Part, Escape, Close, Bad}
 
 -- 0x20 to 0x7E

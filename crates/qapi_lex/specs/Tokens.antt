@@ -1,13 +1,9 @@
 -- The tokens of a schema's text, each with its place, or the first fault (QAPI code generation guide,
 -- "Schema syntax").
 use Rattle.std.specs.Prelude.{ℕ, zero, suc, List, [], ◌∷◌, ◌++◌, Result, Ok, Err}
-use Rattle.qapi_lex.specs.declared.fault.LexFault.{LexFault}
-use Rattle.qapi_lex.specs.declared.piece.Piece.{Piece}
-use Rattle.qapi_lex.specs.declared.piece.Piece.TheVariants.{Blank, Whole}
-use Rattle.qapi_lex.specs.declared.spot.Spot.{Spot}
-use Rattle.qapi_lex.specs.declared.token.Token.{Token}
-use Rattle.qapi_lex.specs.Pieces.{piece, more_in}
-use Rattle.qapi_lex.specs.Spots.{beginning, after_byte}
+use Rattle.qapi_lex.specs.declared.{fault.LexFault.LexFault, piece.Piece.Piece}
+use Rattle.qapi_lex.specs.declared.{piece.Piece.TheVariants.Blank, piece.Piece.TheVariants.Whole, spot.Spot.Spot, token.Token.Token}
+use Rattle.qapi_lex.specs.{Pieces.piece, Pieces.more_in, Spots.beginning, Spots.after_byte}
 
 -- the token of a piece that stands at a place
 abbrev pub tokens_in : Piece → Spot → List Token

@@ -1,31 +1,18 @@
 -- The expressions of a schema's files in reading order, or the first fault (QAPI code generation
 -- guide, "Include directives"; the order of faults and the limit are this project's own rules).
 use Rattle.std.specs.Prelude.{ℕ, zero, suc, ◌==◌, Bool, true, false, if◌then◌else◌, nat_le, List, [], ◌∷◌, ◌++◌, length, find, codes, Option, Some, None, option_and_then, Result, Ok, Err}
-use Rattle.std.specs.List.{list_any}
-use Rattle.std.specs.Str.{bytes_eq}
-use Rattle.qapi_lex.specs.declared.fault.LexFault.{LexFault}
+use Rattle.std.specs.{List.list_any, Str.bytes_eq}
+use Rattle.qapi_lex.specs.{declared.fault.LexFault.LexFault, declared.token.Token.Token, Tokens.tokens_of}
 use Rattle.qapi_lex.specs.declared.fault.LexFault.TheVariants as lexing
-use Rattle.qapi_lex.specs.declared.token.Token.{Token}
-use Rattle.qapi_lex.specs.Tokens.{tokens_of}
-use Rattle.qapi_tree.specs.declared.fault.TreeFault.{TreeFault}
-use Rattle.qapi_tree.specs.declared.tree.Expr.{Expr}
-use Rattle.qapi_tree.specs.declared.tree.Tree.{Tree}
-use Rattle.qapi_tree.specs.declared.tree.Tree.TheOpen.{Tree-F}
+use Rattle.qapi_tree.specs.declared.{fault.TreeFault.TreeFault, tree.Expr.Expr, tree.Tree.Tree, tree.Tree.TheOpen.Tree-F}
 use Rattle.qapi_tree.specs.declared.tree.Tree.TheOpen as layer
-use Rattle.qapi_tree.specs.declared.tree.Tree.TheFolds.{fold-Tree}
-use Rattle.qapi_tree.specs.declared.tree.TreeMember.{TreeMember}
-use Rattle.qapi_tree.specs.Judging.{expressions_of}
+use Rattle.qapi_tree.specs.{declared.tree.Tree.TheFolds.fold-Tree, declared.tree.TreeMember.TreeMember, Judging.expressions_of}
 use Rattle.qapi_tree.specs.Keys.{has_key}
 use Rattle.qm_base.specs.Names.{is_named}
-use Rattle.qapi_load.specs.Files.{NamedText, text_of}
-use Rattle.qapi_load.specs.declared.fault.LoadFault.{LoadFault}
-use Rattle.qapi_load.specs.declared.fault.LoadRule.{LoadRule}
+use Rattle.qapi_load.specs.{Files.NamedText, Files.text_of, declared.fault.LoadFault.LoadFault, declared.fault.LoadRule.LoadRule}
 use Rattle.qapi_load.specs.declared.fault.LoadRule.TheVariants as rule
-use Rattle.qapi_load.specs.declared.fault.TheConstants.{MOST_FILES}
-use Rattle.qapi_load.specs.declared.reading.Place.{Place}
-use Rattle.qapi_load.specs.declared.reading.Need.{Need}
+use Rattle.qapi_load.specs.declared.{fault.TheConstants.MOST_FILES, reading.Place.Place, reading.Need.Need, reading.Reading.Reading}
 use Rattle.qapi_load.specs.declared.reading.Need.TheVariants as need
-use Rattle.qapi_load.specs.declared.reading.Reading.{Reading}
 use Rattle.qapi_load.specs.declared.source.Source.{Source}
 
 abbrev pub on : {A B : Type 0} → Result A LoadFault → (A → Result B LoadFault) → Result B LoadFault

@@ -3,22 +3,12 @@ use Rattle.std.specs.Prelude.{◌≡◌, ◌≢◌, ◌<◌, ◌≤◌, ◌+◌,
 use Rattle.std.specs.Vec.Iter.{into_iter_items}
 use Rattle.qapi_tree.specs.declared.tree.Expr.{Expr}
 use Rattle.qm_base.specs.Faults.{Rose}
-use Rattle.qapi_load.specs.Files.{NamedText}
-use Rattle.qapi_load.specs.declared.fault.LoadFault.{LoadFault}
-use Rattle.qapi_load.specs.declared.fault.TheConstants.{MOST_FILES}
-use Rattle.qapi_load.specs.declared.fault.LoadRule.TheVariants.{ReadFault}
-use Rattle.qapi_load.specs.declared.loading.Loading.{Loading}
-use Rattle.qapi_load.specs.declared.loading.Move.{Move}
-use Rattle.qapi_load.specs.declared.loading.Move.TheVariants.{Done, On, Ask}
-use Rattle.qapi_load.specs.declared.loading.Progress.{Progress}
+use Rattle.qapi_load.specs.{Files.NamedText, declared.fault.LoadFault.LoadFault, declared.fault.TheConstants.MOST_FILES}
+use Rattle.qapi_load.specs.declared.{fault.LoadRule.TheVariants.ReadFault, loading.Loading.Loading, loading.Move.Move}
+use Rattle.qapi_load.specs.declared.loading.{Move.TheVariants.Done, Move.TheVariants.On, Move.TheVariants.Ask, Progress.Progress}
 use Rattle.qapi_load.specs.declared.loading.Progress.TheVariants as goes
-use Rattle.qapi_load.specs.declared.open_file.OpenFile.{OpenFile}
-use Rattle.qapi_load.specs.declared.open_file.Turn.{Turn}
-use Rattle.qapi_load.specs.declared.open_file.Turn.TheVariants.{Over, Stop}
-use Rattle.qapi_load.specs.declared.open_file.Wanted.{Wanted}
-use Rattle.qapi_load.specs.declared.reading.Place.{Place}
-use Rattle.qapi_load.specs.declared.reading.Reading.{Reading}
-use Rattle.qapi_load.specs.declared.source.Source.{Source}
+use Rattle.qapi_load.specs.declared.open_file.{OpenFile.OpenFile, Turn.Turn, Turn.TheVariants.Over, Turn.TheVariants.Stop, Wanted.Wanted}
+use Rattle.qapi_load.specs.declared.{reading.Place.Place, reading.Reading.Reading, source.Source.Source}
 use Rattle.qapi_load.specs.Loading.{on, after_expressions, after_file, finish, memory_fault, read_fault}
 
 -- how a file that is wanted is read

@@ -1,17 +1,12 @@
 -- What spells a row of objects is read as that row.
 use Rattle.std.proofs.Common.{◌≡◌, ℕ, true, false, List, [], ◌∷◌, ◌++◌, Result, Ok, refl, ap, sym, ◌∙◌, append_assoc}
 use Rattle.std.proofs.lemmas.List.{append-nil}
-use Rattle.qapi_lex.specs.declared.token.Token.{Token}
-use Rattle.qapi_lex.specs.declared.token.TokenKind.TheVariants.{Mark, Str}
-use Rattle.qapi_tree.specs.declared.fault.TreeFault.{TreeFault}
-use Rattle.qapi_tree.specs.declared.stack.Expect.{Expect}
+use Rattle.qapi_lex.specs.declared.token.{Token.Token, TokenKind.TheVariants.Mark, TokenKind.TheVariants.Str}
+use Rattle.qapi_tree.specs.declared.{fault.TreeFault.TreeFault, stack.Expect.Expect}
 use Rattle.qapi_tree.specs.declared.stack.Expect.TheVariants.{Object, Value, ValueOrEnd, Key, KeyOrEnd, Colon, CommaOrEnd}
-use Rattle.qapi_tree.specs.declared.stack.Open.{Open}
+use Rattle.qapi_tree.specs.declared.{stack.Open.Open, tree.Tree.Tree, tree.Expr.Expr, tree.TreeMember.TreeMember}
 use Rattle.qapi_tree.specs.declared.stack.Open.TheVariants as opens
-use Rattle.qapi_tree.specs.declared.tree.Tree.{Tree}
 use Rattle.qapi_tree.specs.declared.tree.Tree.TheVariants as trees
-use Rattle.qapi_tree.specs.declared.tree.Expr.{Expr}
-use Rattle.qapi_tree.specs.declared.tree.TreeMember.{TreeMember}
 use Rattle.qapi_tree.specs.Reading.{on, run, whole, last_line, objects_of}
 use Rattle.qapi_tree.specs.Spelling.{has_key, at, SpellsTree, flag, string, no_items, list, dict, SpellsObject, no_members, object, SpellsItems, item, more_items, SpellsMembers, member, more_members, SpellsRow, nothing, more}
 use Rattle.qapi_tree.specs.Stacks.{State, begun, takes_value, takes_object, takes_key, given, given_object, put, put_object}

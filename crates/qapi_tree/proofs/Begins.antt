@@ -1,19 +1,12 @@
 -- What was read begins a row of objects.
 use Rattle.std.proofs.Common.{◌≡◌, ℕ, Bool, true, false, List, [], ◌∷◌, ◌++◌, Result, Ok, Err, refl, ap, sym, ◌∙◌, subst, append_assoc}
 use Rattle.std.proofs.lemmas.List.{append-nil}
-use Rattle.qapi_lex.specs.declared.token.Token.{Token}
-use Rattle.qapi_lex.specs.declared.token.TokenKind.TheVariants.{Mark, Flag, Str}
-use Rattle.qapi_tree.specs.declared.fault.TreeFault.{TreeFault}
-use Rattle.qapi_tree.specs.declared.stack.Open.{Open}
-use Rattle.qapi_tree.specs.declared.tree.Tree.{Tree}
+use Rattle.qapi_lex.specs.declared.token.{Token.Token, TokenKind.TheVariants.Mark, TokenKind.TheVariants.Flag, TokenKind.TheVariants.Str}
+use Rattle.qapi_tree.specs.declared.{fault.TreeFault.TreeFault, stack.Open.Open, tree.Tree.Tree, tree.Expr.Expr, tree.TreeMember.TreeMember}
 use Rattle.qapi_tree.specs.declared.tree.Tree.TheVariants as trees
-use Rattle.qapi_tree.specs.declared.tree.Expr.{Expr}
-use Rattle.qapi_tree.specs.declared.tree.TreeMember.{TreeMember}
 use Rattle.qapi_tree.specs.Reading.{on, run}
 use Rattle.qapi_tree.specs.Spelling.{has_key, at, SpellsTree, flag, no_items, list, dict, SpellsObject, no_members, object, item, more_items, SpellsMembers, member, more_members, SpellsRow, nothing, more}
-use Rattle.qapi_tree.specs.Stacks.{State, begun}
-use Rattle.qapi_tree.specs.Steps.{step}
-use Rattle.qapi_tree.specs.Viable.{BeginsRow}
+use Rattle.qapi_tree.specs.{Stacks.State, Stacks.begun, Steps.step, Viable.BeginsRow}
 use Rattle.qm_base.proofs.Fresh.{fresh, fresh_name}
 use Rattle.qapi_tree.proofs.Holds.{Awaits, row, first_item, next_item, first_member, next_member, Holds, awaiting, row_read, list_begun, items_read, object_begun, members_read, key_next, first_key, next_key, after, Ran, ran}
 

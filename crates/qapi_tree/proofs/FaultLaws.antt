@@ -1,21 +1,13 @@
 -- Tokens are refused with their first fault and with no other.
 use Rattle.std.proofs.Common.{◌≡◌, ℕ, inl, inr, List, [], ◌∷◌, ◌++◌, Option, Some, None, Result, Ok, Err, refl, ap, sym, ◌∙◌, subst, append_assoc, append-nil}
-use Rattle.qapi_lex.specs.declared.token.Token.{Token}
-use Rattle.qapi_lex.specs.declared.token.TokenKind.{TokenKind}
+use Rattle.qapi_lex.specs.declared.token.{Token.Token, TokenKind.TokenKind}
 use Rattle.qapi_lex.specs.declared.token.TokenKind.TheVariants.{Mark, Flag, Str}
-use Rattle.qapi_tree.specs.declared.fault.TreeFault.{TreeFault}
-use Rattle.qapi_tree.specs.declared.fault.TreeRule.TheVariants.{DuplicateKey}
-use Rattle.qapi_tree.specs.declared.tree.Expr.{Expr}
-use Rattle.qapi_tree.specs.Faults.{fault, syntax_fault}
-use Rattle.qapi_tree.specs.Judging.{first_fault, unless_faulty, expressions_of}
-use Rattle.qapi_tree.specs.Reading.{on, run, whole, last_line, objects_of}
-use Rattle.qapi_tree.specs.Spelling.{at, SpellsRow}
-use Rattle.qapi_tree.specs.Stacks.{State, begun}
-use Rattle.qapi_tree.specs.Steps.{kind_step, step}
+use Rattle.qapi_tree.specs.declared.{fault.TreeFault.TreeFault, fault.TreeRule.TheVariants.DuplicateKey, tree.Expr.Expr}
+use Rattle.qapi_tree.specs.{Faults.fault, Faults.syntax_fault, Judging.first_fault, Judging.unless_faulty, Judging.expressions_of}
+use Rattle.qapi_tree.specs.{Reading.on, Reading.run, Reading.whole, Reading.last_line, Reading.objects_of, Spelling.at, Spelling.SpellsRow}
+use Rattle.qapi_tree.specs.{Stacks.State, Stacks.begun, Steps.kind_step, Steps.step}
 use Rattle.qapi_tree.specs.Viable.{BeginsRow, IsMisplaced, FirstFault, misplaced, twice, short, HasFault, of_tokens, of_expressions}
-use Rattle.qapi_tree.proofs.Accepts.{row-read}
-use Rattle.qapi_tree.proofs.Begins.{followed, run-append, taken_begins}
-use Rattle.qapi_tree.proofs.Holds.{row-spelled}
+use Rattle.qapi_tree.proofs.{Accepts.row-read, Begins.followed, Begins.run-append, Begins.taken_begins, Holds.row-spelled}
 use Rattle.qapi_tree.proofs.Refusals.{Refuses, mark_refused, flag_refused, end_refused, IsRefused, string_refused}
 
 alone : (r : Result State TreeFault) → on r (λ next. run next []) ≡ r

@@ -1,8 +1,6 @@
 -- The only form of some kinds, kind by kind.
 use Rattle.std.proofs.Common.{◌≡◌, List, [], ◌∷◌, Option, Some, None, refl}
-use Rattle.qapi_tree.specs.declared.table.Form.{Form}
-use Rattle.qapi_tree.specs.declared.table.KindRule.{KindRule}
-use Rattle.qapi_tree.specs.Judging.{only_form}
+use Rattle.qapi_tree.specs.{declared.table.Form.Form, declared.table.KindRule.KindRule, Judging.only_form}
 
 abbrev pub settled : Option Form → List KindRule → Option Form
 settled None rest = only_form rest

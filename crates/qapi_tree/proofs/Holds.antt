@@ -1,21 +1,14 @@
 -- What is read as a row of objects spells it.
 use Rattle.std.proofs.Common.{◌≡◌, ◌==◌, ℕ, Bool, true, false, cond, List, [], ◌∷◌, ◌++◌, Result, Ok, Err, refl, ap, sym, ◌∙◌, subst, append_assoc, arith}
-use Rattle.std.proofs.lemmas.List.{append-nil}
-use Rattle.std.proofs.lemmas.Bool.Decides.{nat_tests}
-use Rattle.qapi_lex.specs.declared.token.Token.{Token}
-use Rattle.qapi_lex.specs.declared.token.TokenKind.{TokenKind}
+use Rattle.std.proofs.lemmas.{List.append-nil, Bool.Decides.nat_tests}
+use Rattle.qapi_lex.specs.declared.token.{Token.Token, TokenKind.TokenKind}
 use Rattle.qapi_lex.specs.declared.token.TokenKind.TheVariants.{Mark, Flag, Str}
-use Rattle.qapi_tree.specs.declared.fault.TreeFault.{TreeFault}
-use Rattle.qapi_tree.specs.declared.stack.Expect.{Expect}
+use Rattle.qapi_tree.specs.declared.{fault.TreeFault.TreeFault, stack.Expect.Expect}
 use Rattle.qapi_tree.specs.declared.stack.Expect.TheVariants.{Object, Value, ValueOrEnd, Key, KeyOrEnd, Colon, CommaOrEnd}
-use Rattle.qapi_tree.specs.declared.stack.Open.{Open}
+use Rattle.qapi_tree.specs.declared.{stack.Open.Open, tree.Tree.Tree, tree.Expr.Expr, tree.TreeMember.TreeMember}
 use Rattle.qapi_tree.specs.declared.stack.Open.TheVariants as opens
-use Rattle.qapi_tree.specs.declared.tree.Tree.{Tree}
 use Rattle.qapi_tree.specs.declared.tree.Tree.TheVariants as trees
-use Rattle.qapi_tree.specs.declared.tree.Expr.{Expr}
-use Rattle.qapi_tree.specs.declared.tree.TreeMember.{TreeMember}
-use Rattle.qapi_tree.specs.Faults.{syntax_fault}
-use Rattle.qapi_tree.specs.Reading.{on, run, whole, last_line, objects_of}
+use Rattle.qapi_tree.specs.{Faults.syntax_fault, Reading.on, Reading.run, Reading.whole, Reading.last_line, Reading.objects_of}
 use Rattle.qapi_tree.specs.Spelling.{has_key, at, SpellsTree, flag, string, no_items, list, dict, SpellsObject, no_members, object, SpellsItems, item, more_items, SpellsMembers, member, more_members, SpellsRow, nothing, more}
 use Rattle.qapi_tree.specs.Stacks.{State, begun, ends_list, ends_object, put, put_object}
 use Rattle.qapi_tree.specs.Steps.{open_list, open_object, close_list, close_object, colon_step, comma_step, mark_step, kind_step, step}

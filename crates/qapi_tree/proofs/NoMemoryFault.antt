@@ -2,16 +2,11 @@
 use Rattle.std.proofs.Common.{◌≡◌, ◌≢◌, ℕ, List, [], ◌∷◌, Option, Some, None, option_map, Result, Ok, Err, IfErr, IfSome, refl, subst}
 use Rattle.std.specs.Option.{option_or}
 use Rattle.qapi_lex.specs.declared.token.Token.{Token}
-use Rattle.qapi_tree.specs.declared.fault.TreeFault.{TreeFault}
-use Rattle.qapi_tree.specs.declared.fault.TreeRule.{TreeRule}
+use Rattle.qapi_tree.specs.declared.fault.{TreeFault.TreeFault, TreeRule.TreeRule}
 use Rattle.qapi_tree.specs.declared.fault.TreeRule.TheVariants.{Memory, UnknownKey, MissingKey, WrongShape}
-use Rattle.qapi_tree.specs.declared.table.Form.{Form}
-use Rattle.qapi_tree.specs.declared.tree.Expr.{Expr}
-use Rattle.qapi_tree.specs.declared.tree.TreeMember.{TreeMember}
-use Rattle.qapi_tree.specs.Faults.{fault}
+use Rattle.qapi_tree.specs.{declared.table.Form.Form, declared.tree.Expr.Expr, declared.tree.TreeMember.TreeMember, Faults.fault}
 use Rattle.qapi_tree.specs.Judging.{form_of, first_unknown, first_missing, first_wrong, fault_in, fault_of, first_fault, expressions_of}
-use Rattle.qapi_tree.specs.Shapes.{key_in}
-use Rattle.qapi_tree.specs.Table.{name}
+use Rattle.qapi_tree.specs.{Shapes.key_in, Table.name}
 use Rattle.qapi_tree.specs.Viable.{FirstFault, misplaced, twice, short, HasFault, of_tokens, of_expressions}
 use Rattle.qapi_tree.proofs.FaultLaws.{refused_faulty}
 

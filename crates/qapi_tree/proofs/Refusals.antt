@@ -2,18 +2,11 @@
 use Rattle.std.proofs.Common.{◌≡◌, ℕ, ◌==◌, Bool, true, false, cond, ◌⊎◌, inl, inr, List, [], ◌∷◌, Result, Ok, Err, refl}
 use Rattle.qm_base.proofs.Fresh.{fresh, fresh_name}
 use Rattle.qapi_lex.specs.declared.token.TokenKind.TheVariants.{Mark, Flag, Str}
-use Rattle.qapi_tree.specs.declared.fault.TreeFault.{TreeFault}
-use Rattle.qapi_tree.specs.declared.fault.TreeRule.TheVariants.{DuplicateKey}
-use Rattle.qapi_tree.specs.declared.stack.Expect.{Expect}
-use Rattle.qapi_tree.specs.declared.stack.Expect.TheVariants.{Colon, CommaOrEnd}
-use Rattle.qapi_tree.specs.declared.stack.Open.{Open}
+use Rattle.qapi_tree.specs.declared.{fault.TreeFault.TreeFault, fault.TreeRule.TheVariants.DuplicateKey, stack.Expect.Expect}
+use Rattle.qapi_tree.specs.declared.{stack.Expect.TheVariants.Colon, stack.Expect.TheVariants.CommaOrEnd, stack.Open.Open, tree.Expr.Expr}
 use Rattle.qapi_tree.specs.declared.stack.Open.TheVariants as opens
-use Rattle.qapi_tree.specs.declared.tree.Expr.{Expr}
 use Rattle.qapi_tree.specs.declared.tree.Tree.TheVariants as trees
-use Rattle.qapi_tree.specs.declared.tree.TreeMember.{TreeMember}
-use Rattle.qapi_tree.specs.Faults.{fault, syntax_fault}
-use Rattle.qapi_tree.specs.Spelling.{has_key}
-use Rattle.qapi_tree.specs.Reading.{whole}
+use Rattle.qapi_tree.specs.{declared.tree.TreeMember.TreeMember, Faults.fault, Faults.syntax_fault, Spelling.has_key, Reading.whole}
 use Rattle.qapi_tree.specs.Stacks.{State, takes_value, takes_object, takes_key, ends_list, ends_object, put}
 use Rattle.qapi_tree.specs.Steps.{key_step, value_step, close_list, close_object, colon_step, comma_step, kind_step}
 

@@ -1,13 +1,10 @@
 -- Which tokens are accepted.
 use Rattle.std.proofs.Common.{◌≡◌, List, Option, Some, None, Result, Ok, Err, refl, ap, ◌∙◌, subst}
 use Rattle.qapi_lex.specs.declared.token.Token.{Token}
-use Rattle.qapi_tree.specs.declared.fault.TreeFault.{TreeFault}
-use Rattle.qapi_tree.specs.declared.tree.Expr.{Expr}
-use Rattle.qapi_tree.specs.Judging.{first_fault, unless_faulty, expressions_of}
-use Rattle.qapi_tree.specs.Reading.{on, objects_of}
+use Rattle.qapi_tree.specs.declared.{fault.TreeFault.TreeFault, tree.Expr.Expr}
+use Rattle.qapi_tree.specs.{Judging.first_fault, Judging.unless_faulty, Judging.expressions_of, Reading.on, Reading.objects_of}
 use Rattle.qapi_tree.specs.Spelling.{SpellsRow}
-use Rattle.qapi_tree.proofs.Accepts.{row-read}
-use Rattle.qapi_tree.proofs.Holds.{row-spelled}
+use Rattle.qapi_tree.proofs.{Accepts.row-read, Holds.row-spelled}
 
 abbrev Accepted : Result (List Expr) TreeFault → List Expr → Type 0
 Accepted r exprs = (r ≡ Ok exprs) × (first_fault exprs ≡ None)

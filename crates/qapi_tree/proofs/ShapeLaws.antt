@@ -1,19 +1,11 @@
 -- Shapes, layer by layer.
 use Rattle.std.proofs.Common.{◌≡◌, ◌+◌, ◌<◌, drop, get_or, arith, suc, ℕ, Bool, true, false, not, ◌&&◌, ◌||◌, List, [], ◌∷◌, map, length, refl, ap, sym, ◌∙◌}
-use Rattle.std.specs.List.{list_all, list_any}
-use Rattle.std.specs.Str.{bytes_eq}
-use Rattle.std.proofs.Math.Seq.{drop-cons}
-use Rattle.std.proofs.lemmas.List.{length-map}
-use Rattle.std.proofs.lemmas.List.Folds.{list_all-map}
-use Rattle.qapi_tree.specs.declared.table.Form.{Form}
-use Rattle.qapi_tree.specs.declared.table.KeyRule.{KeyRule}
-use Rattle.qapi_tree.specs.declared.table.Shape.{Shape}
-use Rattle.qapi_tree.specs.declared.table.ListRule.{ListRule}
+use Rattle.std.specs.{List.list_all, List.list_any, Str.bytes_eq}
+use Rattle.std.proofs.{Math.Seq.drop-cons, lemmas.List.length-map, lemmas.List.Folds.list_all-map}
+use Rattle.qapi_tree.specs.declared.table.{Form.Form, KeyRule.KeyRule, Shape.Shape, ListRule.ListRule, DictRule.DictRule}
 use Rattle.qapi_tree.specs.declared.table.ListRule.TheVariants as list
-use Rattle.qapi_tree.specs.declared.table.DictRule.{DictRule}
-use Rattle.qapi_tree.specs.declared.table.ShapeRule.{ShapeRule}
+use Rattle.qapi_tree.specs.declared.{table.ShapeRule.ShapeRule, tree.Tree.Tree}
 use Rattle.qapi_tree.specs.declared.table.DictRule.TheVariants as dict
-use Rattle.qapi_tree.specs.declared.tree.Tree.{Tree}
 use Rattle.qapi_tree.specs.declared.tree.Tree.TheVariants as trees
 use Rattle.qapi_tree.specs.declared.tree.Tree.TheVariants.{rolls-Flag, rolls-Str, rolls-List, rolls-Dict}
 use Rattle.qapi_tree.specs.declared.tree.Tree.TheOpen as layer

@@ -1,8 +1,6 @@
 -- The faults of a schema's tokens (this project's own rule).
 use Rattle.std.specs.Prelude.{ℕ, List, []}
-use Rattle.qapi_tree.specs.declared.fault.TreeFault.{TreeFault}
-use Rattle.qapi_tree.specs.declared.fault.TreeRule.{TreeRule}
-use Rattle.qapi_tree.specs.declared.fault.TreeRule.TheVariants.{Syntax, Memory}
+use Rattle.qapi_tree.specs.declared.fault.{TreeFault.TreeFault, TreeRule.TreeRule, TreeRule.TheVariants.Syntax, TreeRule.TheVariants.Memory}
 
 abbrev pub fault : TreeRule → ℕ → List ℕ → TreeFault
 fault rule line name = record { rule = rule; line = line; name = name }

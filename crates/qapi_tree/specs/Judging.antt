@@ -2,18 +2,12 @@
 -- and the first value of a wrong shape (QAPI code generation guide, "Schema syntax"; the order is
 -- this project's own rule).
 use Rattle.std.specs.Prelude.{ℕ, not, ◌&&◌, List, [], ◌∷◌, Option, Some, None, find, Result, Ok, Err}
-use Rattle.std.specs.Option.{option_map, option_or, is_none}
-use Rattle.std.specs.List.{filter}
+use Rattle.std.specs.{Option.option_map, Option.option_or, Option.is_none, List.filter}
 use Rattle.qapi_lex.specs.declared.token.Token.{Token}
 use Rattle.qapi_tree.specs.declared.fault.TreeFault.{TreeFault}
 use Rattle.qapi_tree.specs.declared.fault.TreeRule.TheVariants.{UnknownKey, MissingKey, WrongShape}
-use Rattle.qapi_tree.specs.declared.table.Form.{Form}
-use Rattle.qapi_tree.specs.declared.table.KeyRule.{KeyRule}
-use Rattle.qapi_tree.specs.declared.table.KindRule.{KindRule}
-use Rattle.qapi_tree.specs.declared.tree.Expr.{Expr}
-use Rattle.qapi_tree.specs.declared.tree.TreeMember.{TreeMember}
-use Rattle.qapi_tree.specs.Faults.{fault, syntax_fault}
-use Rattle.qapi_tree.specs.Spelling.{has_key}
+use Rattle.qapi_tree.specs.declared.{table.Form.Form, table.KeyRule.KeyRule, table.KindRule.KindRule, tree.Expr.Expr}
+use Rattle.qapi_tree.specs.{declared.tree.TreeMember.TreeMember, Faults.fault, Faults.syntax_fault, Spelling.has_key}
 use Rattle.qapi_tree.specs.Reading.{on, objects_of}
 use Rattle.qapi_tree.specs.Shapes.{key_in, is_needed, rule_for, fits_rule, has_shape}
 use Rattle.qapi_tree.specs.Table.{name, keys, kinds}

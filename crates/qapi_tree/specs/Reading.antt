@@ -3,13 +3,9 @@
 -- this project's own rule).
 use Rattle.std.specs.Prelude.{◌≡◌, ◌≢◌, ℕ, List, [], ◌∷◌, Result, Ok, Err}
 use Rattle.qapi_lex.specs.declared.token.Token.{Token}
-use Rattle.qapi_tree.specs.declared.fault.TreeFault.{TreeFault}
-use Rattle.qapi_tree.specs.declared.stack.Open.{Open}
+use Rattle.qapi_tree.specs.declared.{fault.TreeFault.TreeFault, stack.Open.Open, tree.Expr.Expr}
 use Rattle.qapi_tree.specs.declared.stack.Open.TheVariants as opens
-use Rattle.qapi_tree.specs.declared.tree.Expr.{Expr}
-use Rattle.qapi_tree.specs.Faults.{syntax_fault, memory_fault}
-use Rattle.qapi_tree.specs.Stacks.{State, begun}
-use Rattle.qapi_tree.specs.Steps.{step}
+use Rattle.qapi_tree.specs.{Faults.syntax_fault, Faults.memory_fault, Stacks.State, Stacks.begun, Steps.step}
 
 abbrev pub on : {A B : Type 0} → Result A TreeFault → (A → Result B TreeFault) → Result B TreeFault
 on (Ok x) next = next x

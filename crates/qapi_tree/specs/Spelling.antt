@@ -1,15 +1,11 @@
 -- Which tokens spell which expressions: a grammar by cases (QAPI code generation guide, "Schema
 -- syntax"; that keys are distinct is this project's own rule).
 use Rattle.std.specs.Prelude.{◌≡◌, ℕ, Bool, false, List, [], ◌∷◌, ◌++◌}
-use Rattle.std.specs.List.{list_any}
-use Rattle.std.specs.Str.{bytes_eq}
-use Rattle.qapi_lex.specs.declared.token.Token.{Token}
-use Rattle.qapi_lex.specs.declared.token.TokenKind.{TokenKind}
+use Rattle.std.specs.{List.list_any, Str.bytes_eq}
+use Rattle.qapi_lex.specs.declared.token.{Token.Token, TokenKind.TokenKind}
 use Rattle.qapi_lex.specs.declared.token.TokenKind.TheVariants.{Mark, Flag, Str}
-use Rattle.qapi_tree.specs.declared.tree.Tree.{Tree}
+use Rattle.qapi_tree.specs.declared.tree.{Tree.Tree, Expr.Expr, TreeMember.TreeMember}
 use Rattle.qapi_tree.specs.declared.tree.Tree.TheVariants as trees
-use Rattle.qapi_tree.specs.declared.tree.Expr.{Expr}
-use Rattle.qapi_tree.specs.declared.tree.TreeMember.{TreeMember}
 
 -- some member has the key
 abbrev pub has_key : List TreeMember → List ℕ → Bool

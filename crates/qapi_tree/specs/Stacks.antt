@@ -3,11 +3,9 @@
 use Rattle.std.specs.Prelude.{ℕ, Bool, true, false, List, [], ◌∷◌, ◌++◌}
 use Rattle.qapi_tree.specs.declared.stack.Expect.{Expect}
 use Rattle.qapi_tree.specs.declared.stack.Expect.TheVariants.{Object, Value, ValueOrEnd, Key, KeyOrEnd, CommaOrEnd}
-use Rattle.qapi_tree.specs.declared.stack.Open.{Open}
+use Rattle.qapi_tree.specs.declared.{stack.Open.Open, tree.Tree.Tree, tree.TreeMember.TreeMember}
 use Rattle.qapi_tree.specs.declared.stack.Open.TheVariants as opens
-use Rattle.qapi_tree.specs.declared.tree.Tree.{Tree}
 use Rattle.qapi_tree.specs.declared.tree.Tree.TheVariants as trees
-use Rattle.qapi_tree.specs.declared.tree.TreeMember.{TreeMember}
 
 -- what was read: what is open, the innermost first, and what may stand next
 pub record State : Type 0 where

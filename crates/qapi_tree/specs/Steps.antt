@@ -2,19 +2,13 @@
 -- already (QAPI code generation guide, "Schema syntax"; the order of the faults is this project's own
 -- rule).
 use Rattle.std.specs.Prelude.{ℕ, ◌==◌, cond, List, [], ◌∷◌, Result, Ok, Err}
-use Rattle.qapi_lex.specs.declared.token.Token.{Token}
-use Rattle.qapi_lex.specs.declared.token.TokenKind.{TokenKind}
+use Rattle.qapi_lex.specs.declared.token.{Token.Token, TokenKind.TokenKind}
 use Rattle.qapi_lex.specs.declared.token.TokenKind.TheVariants.{Mark, Flag, Str}
-use Rattle.qapi_tree.specs.declared.fault.TreeFault.{TreeFault}
-use Rattle.qapi_tree.specs.declared.fault.TreeRule.TheVariants.{DuplicateKey}
-use Rattle.qapi_tree.specs.declared.stack.Expect.{Expect}
+use Rattle.qapi_tree.specs.declared.{fault.TreeFault.TreeFault, fault.TreeRule.TheVariants.DuplicateKey, stack.Expect.Expect}
 use Rattle.qapi_tree.specs.declared.stack.Expect.TheVariants.{Value, ValueOrEnd, KeyOrEnd, Colon, CommaOrEnd}
-use Rattle.qapi_tree.specs.declared.stack.Open.{Open}
+use Rattle.qapi_tree.specs.{declared.stack.Open.Open, declared.tree.Tree.Tree, Faults.fault, Faults.syntax_fault, Spelling.has_key}
 use Rattle.qapi_tree.specs.declared.stack.Open.TheVariants as opens
-use Rattle.qapi_tree.specs.declared.tree.Tree.{Tree}
 use Rattle.qapi_tree.specs.declared.tree.Tree.TheVariants as trees
-use Rattle.qapi_tree.specs.Faults.{fault, syntax_fault}
-use Rattle.qapi_tree.specs.Spelling.{has_key}
 use Rattle.qapi_tree.specs.Stacks.{State, takes_value, takes_object, takes_key, ends_list, ends_object, after_comma, put, put_object}
 
 abbrev pub value_step : State → Tree → ℕ → Result State TreeFault

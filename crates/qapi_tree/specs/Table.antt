@@ -1,22 +1,15 @@
 -- The kinds of expressions, the keys of each form of object, and the shapes of values (QAPI code
 -- generation guide, "Schema syntax"; the lenient points of shapes are this project's own rule).
 use Rattle.std.specs.Prelude.{ℕ, List, [], ◌∷◌, codes}
-use Rattle.qapi_tree.specs.declared.table.Key.{Key}
+use Rattle.qapi_tree.specs.declared.table.{Key.Key, Form.Form, Shape.Shape, KeyRule.KeyRule}
 use Rattle.qapi_tree.specs.declared.table.Key.TheVariants as key
-use Rattle.qapi_tree.specs.declared.table.Form.{Form}
 use Rattle.qapi_tree.specs.declared.table.Form.TheVariants as form
-use Rattle.qapi_tree.specs.declared.table.Shape.{Shape}
 use Rattle.qapi_tree.specs.declared.table.Shape.TheVariants as shape
-use Rattle.qapi_tree.specs.declared.table.KeyRule.{KeyRule}
-use Rattle.qapi_tree.specs.declared.table.KeyRule.TheVariants.{Needed, Optional}
-use Rattle.qapi_tree.specs.declared.table.KindRule.{KindRule}
-use Rattle.qapi_tree.specs.declared.table.ScalarRule.{ScalarRule}
+use Rattle.qapi_tree.specs.declared.table.{KeyRule.TheVariants.Needed, KeyRule.TheVariants.Optional, KindRule.KindRule}
+use Rattle.qapi_tree.specs.declared.table.{ScalarRule.ScalarRule, ListRule.ListRule, DictRule.DictRule, ShapeRule.ShapeRule}
 use Rattle.qapi_tree.specs.declared.table.ScalarRule.TheVariants as scalar
-use Rattle.qapi_tree.specs.declared.table.ListRule.{ListRule}
 use Rattle.qapi_tree.specs.declared.table.ListRule.TheVariants as list
-use Rattle.qapi_tree.specs.declared.table.DictRule.{DictRule}
 use Rattle.qapi_tree.specs.declared.table.DictRule.TheVariants as dict
-use Rattle.qapi_tree.specs.declared.table.ShapeRule.{ShapeRule}
 
 -- how a key is written
 abbrev pub name : Key → List ℕ

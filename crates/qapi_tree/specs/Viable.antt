@@ -1,15 +1,8 @@
 -- The first fault of tokens, told by which tokens begin a row of objects (this project's own rule).
 use Rattle.std.specs.Prelude.{◌≡◌, ℕ, List, [], ◌∷◌, ◌++◌, Some}
-use Rattle.qapi_lex.specs.declared.token.Token.{Token}
-use Rattle.qapi_lex.specs.declared.token.TokenKind.{TokenKind}
-use Rattle.qapi_lex.specs.declared.token.TokenKind.TheVariants.{Str}
-use Rattle.qapi_tree.specs.declared.fault.TreeFault.{TreeFault}
-use Rattle.qapi_tree.specs.declared.fault.TreeRule.TheVariants.{DuplicateKey}
-use Rattle.qapi_tree.specs.declared.tree.Expr.{Expr}
-use Rattle.qapi_tree.specs.Faults.{fault, syntax_fault}
-use Rattle.qapi_tree.specs.Judging.{first_fault}
-use Rattle.qapi_tree.specs.Reading.{last_line}
-use Rattle.qapi_tree.specs.Spelling.{at, SpellsRow}
+use Rattle.qapi_lex.specs.declared.token.{Token.Token, TokenKind.TokenKind, TokenKind.TheVariants.Str}
+use Rattle.qapi_tree.specs.declared.{fault.TreeFault.TreeFault, fault.TreeRule.TheVariants.DuplicateKey, tree.Expr.Expr}
+use Rattle.qapi_tree.specs.{Faults.fault, Faults.syntax_fault, Judging.first_fault, Reading.last_line, Spelling.at, Spelling.SpellsRow}
 
 -- with some tokens after them, the tokens spell some row of objects
 pub record BeginsRow (ts : List Token) : Type 0 where

@@ -1,7 +1,6 @@
 -- Laws of told bytes.
 use Rattle.std.proofs.Common.{◌≡◌, ℕ, List, ◌++◌, Option, Some, None, Result, Ok, Err, IsErr, refl, ap, ◌∙◌, append_assoc}
-use Rattle.qm_base.specs.Faults.{told_more, HoldsPart, Puts}
-use Rattle.qm_base.specs.Prefixes.{IsPrefix}
+use Rattle.qm_base.specs.{Faults.told_more, Faults.HoldsPart, Faults.Puts, Prefixes.IsPrefix}
 use Rattle.qm_base.proofs.Prefixes.{append_prefix, trans_prefix}
 
 -- two pieces in turn are one piece

@@ -1,7 +1,6 @@
 -- Tables of names, as lists whose order says nothing (this project's own rule).
 use Rattle.std.specs.Prelude.{◌≡◌, ℕ, Bool, ◌||◌, List}
-use Rattle.std.specs.List.{list_any}
-use Rattle.std.specs.Str.{bytes_eq}
+use Rattle.std.specs.{List.list_any, Str.bytes_eq}
 
 -- the table has the name
 abbrev pub is_named : List (List ℕ) → List ℕ → Bool

@@ -1,8 +1,6 @@
 -- Decimal numbers without a sign or a leading zero (this project's own rule).
 use Rattle.std.specs.Prelude.{ℕ, ◌^◌, ◌==◌, nat_lt, Bool, not, cond, ◌&&◌, List, length, slice_index, Option, Some, None}
-use Rattle.std.specs.List.{list_all}
-use Rattle.std.specs.Char.{is_ascii_digit}
-use Rattle.std.specs.Str.Parse.{digits_value}
+use Rattle.std.specs.{List.list_all, Char.is_ascii_digit, Str.Parse.digits_value}
 
 -- a zero stands before something else
 abbrev pub has_leading_zero : List ℕ → Bool

@@ -1,7 +1,6 @@
 -- What a mode allows (this project's own rule).
 use Rattle.std.specs.Prelude.{ℕ}
-use Rattle.qm_caps.specs.declared.mode.Mode.{Mode}
-use Rattle.qm_caps.specs.declared.mode.Mode.TheVariants.{Negotiating, Command, CommandOob}
+use Rattle.qm_caps.specs.declared.mode.Mode.{Mode, TheVariants.Negotiating, TheVariants.Command, TheVariants.CommandOob}
 
 -- how many in-band requests of a session may wait or run at a time
 abbrev pub bound_of : Mode → ℕ

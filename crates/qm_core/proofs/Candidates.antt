@@ -1,9 +1,7 @@
 -- The lines that a session may be sent, and one more.
 use Rattle.std.proofs.Common.{◌≡◌, ℕ, ◌+◌, nat_le, nat_lt, Bool, true, false, not, cond, ◌&&◌, ◌||◌, List, [], ◌∷◌, ◌++◌, length, refl, ap, sym, ◌∙◌, subst, append_assoc, arith}
 use Rattle.std.specs.List.{list_any, take_while}
-use Rattle.std.proofs.Math.Bool.{or-false}
-use Rattle.std.proofs.lemmas.Bool.Decides.{nat_tests}
-use Rattle.std.proofs.lemmas.List.Folds.{list_any-append}
+use Rattle.std.proofs.{Math.Bool.or-false, lemmas.Bool.Decides.nat_tests, lemmas.List.Folds.list_any-append}
 use Rattle.std.proofs.lemmas.List.Sums.{take_while-cons}
 use Rattle.qm_core.specs.Kept.{fits}
 use Rattle.qm_core.specs.Transcript.{Candidate, lines_in, passes_limit, with_line, wire_of}

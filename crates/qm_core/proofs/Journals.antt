@@ -1,13 +1,10 @@
 -- Journals that are legal, and one more entry.
 use Rattle.std.proofs.Common.{◌≡◌, ℕ, ◌==◌, true, false, ◌||◌, List, [], ◌∷◌, ◌++◌, reverse, refl, ap, append_assoc, ◌∙◌, subst, inl, inr}
 use Rattle.std.specs.List.{list_any}
-use Rattle.std.proofs.lemmas.List.{reverse-append}
-use Rattle.std.proofs.lemmas.Bool.{and_parts, or_cases}
-use Rattle.std.proofs.lemmas.Bool.Decides.{Decides-eqb}
+use Rattle.std.proofs.lemmas.{List.reverse-append, Bool.and_parts, Bool.or_cases, Bool.Decides.Decides-eqb}
 use Rattle.qm_core.specs.declared.entries.Entry.{Entry}
 use Rattle.qm_core.specs.declared.entries.Entry.TheVariants.{Open, Admit, Start, Done, Take, Eof, Drop}
-use Rattle.qm_core.specs.Legal.{past_of, AllFollow, IsLegal}
-use Rattle.qm_core.specs.Order.{MayFollow}
+use Rattle.qm_core.specs.{Legal.past_of, Legal.AllFollow, Legal.IsLegal, Order.MayFollow}
 use Rattle.qm_core.specs.Standing.{sessions_of, was_opened, is_dropped}
 
 pub past_of-append : (journal : List Entry) (e : Entry) → past_of (journal ++ e ∷ []) ≡ e ∷ past_of journal

@@ -2,25 +2,14 @@
 use Rattle.std.proofs.Common.{◌≡◌, ℕ, ◌+◌, ◌^◌, ◌<◌, ◌≤◌, max, Bool, true, false, ◌&&◌, Option, Some, None, List, [], ◌∷◌, ◌++◌, length, refl, ap, sym, arith}
 use Rattle.std.proofs.lemmas.List.{length-append}
 use Rattle.qm_base.specs.Reserving.{Reserved}
-use Rattle.qm_json.specs.Printing.{printed}
-use Rattle.qm_json.specs.declared.value.Json.{Json}
-use Rattle.qm_caps.specs.Greetings.{greeting_value}
-use Rattle.qm_caps.specs.Modes.{bound_of}
-use Rattle.qm_caps.specs.declared.mode.Lane.TheVariants.{InBand}
-use Rattle.qm_core.specs.declared.TheConstants.{DROP_BYTES}
-use Rattle.qm_core.specs.declared.entries.Cause.{Cause}
-use Rattle.qm_core.specs.declared.entries.Entry.{Entry}
+use Rattle.qm_json.specs.{Printing.printed, declared.value.Json.Json}
+use Rattle.qm_caps.specs.{Greetings.greeting_value, Modes.bound_of, declared.mode.Lane.TheVariants.InBand}
+use Rattle.qm_core.specs.declared.{TheConstants.DROP_BYTES, entries.Cause.Cause, entries.Entry.Entry}
 use Rattle.qm_core.specs.declared.entries.Entry.TheVariants.{Open, Admit, Done, Drop}
-use Rattle.qm_core.specs.declared.inputs.Input.{Input}
-use Rattle.qm_core.specs.declared.monitor.Monitor.TheInside.{Inside as Fields}
-use Rattle.qm_core.specs.declared.requests.Request.{Request}
-use Rattle.qm_core.specs.declared.requests.RequestName.{RequestName}
-use Rattle.qm_core.specs.declared.sessions.Session.{Session}
-use Rattle.qm_core.specs.Inputs.{IsCleanInput}
+use Rattle.qm_core.specs.declared.{inputs.Input.Input, monitor.Monitor.TheInside.Inside as Fields, requests.Request.Request}
+use Rattle.qm_core.specs.{declared.requests.RequestName.RequestName, declared.sessions.Session.Session, Inputs.IsCleanInput}
 use Rattle.qm_core.specs.Kept.{IsPlaced, IsSession, IsFirstOpen, IsRunning, IsSound, answered, sent, view_of}
-use Rattle.qm_core.specs.Legal.{past_of}
-use Rattle.qm_core.specs.Order.{MayFollow}
-use Rattle.qm_core.specs.Replies.{reply_to, is_return}
+use Rattle.qm_core.specs.{Legal.past_of, Order.MayFollow, Replies.reply_to, Replies.is_return}
 use Rattle.qm_core.specs.Standing.{sessions_of, is_ended, open_count_of, admitted_of, in_flight_of, mode_of, running_of, negotiates, last_moment_of}
 use Rattle.qm_core.specs.Texts.{entry_text_of}
 use Rattle.qm_core.proofs.Journals.{legal-append, past_of-append}

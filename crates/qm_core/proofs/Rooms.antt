@@ -1,17 +1,11 @@
 -- The room of a journal for one more entry.
 use Rattle.std.proofs.Common.{◌≡◌, ℕ, ◌+◌, ◌*◌, ◌≤◌, nat_le, Bool, ◌&&◌, ◌∷◌, length, Result, Ok, Err, IfOk, refl, ap, sym, subst, ◌∙◌, arith}
 use Rattle.std.specs.Result.{result_err}
-use Rattle.std.proofs.lemmas.Bool.Decides.{nat_tests}
-use Rattle.std.proofs.lemmas.List.{length-reverse, reverse-reverse}
+use Rattle.std.proofs.lemmas.{Bool.Decides.nat_tests, List.length-reverse, List.reverse-reverse}
 use Rattle.qm_json.specs.Printing.{capped}
-use Rattle.qm_core.specs.Kept.{HasPlace, Placed, has_place}
-use Rattle.qm_core.specs.Legal.{past_of}
-use Rattle.qm_core.specs.Next.{View, full_refusal, full_unless}
-use Rattle.qm_core.specs.Standing.{open_count_of}
-use Rattle.qm_core.specs.Texts.{entry_text_of, text_of}
-use Rattle.qm_core.specs.declared.TheConstants.{DROP_BYTES, MOST_TEXT}
-use Rattle.qm_core.specs.declared.entries.Entry.{Entry}
-use Rattle.qm_core.specs.declared.entries.StepFault.{StepFault}
+use Rattle.qm_core.specs.{Kept.HasPlace, Kept.Placed, Kept.has_place, Legal.past_of, Next.View, Next.full_refusal, Next.full_unless}
+use Rattle.qm_core.specs.{Standing.open_count_of, Texts.entry_text_of, Texts.text_of}
+use Rattle.qm_core.specs.declared.{TheConstants.DROP_BYTES, TheConstants.MOST_TEXT, entries.Entry.Entry, entries.StepFault.StepFault}
 
 -- a length past 64 bits is past the limit
 same_test : (before bytes kept most : ℕ) → most ≤ MOST_TEXT → nat_le (before + capped bytes + kept) most ≡ nat_le (before + bytes + kept) most

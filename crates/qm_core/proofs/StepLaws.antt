@@ -2,17 +2,12 @@
 use Rattle.std.proofs.Common.{◌≡◌, ℕ, ◌^◌, ◌<◌, Bool, true, false, not, ◌&&◌, ◌||◌, Option, Some, None, is_some, is_none, List, [], ◌∷◌, length, nat_le, ◌==◌, refl, ap, sym, ◌∙◌, arith}
 use Rattle.std.specs.Bool.{if◌then◌else◌}
 use Rattle.std.specs.Option.{option_or}
-use Rattle.std.proofs.lemmas.Bool.{and_parts}
-use Rattle.std.proofs.lemmas.Bool.Decides.{nat_tests, Decides-eqb}
+use Rattle.std.proofs.lemmas.Bool.{and_parts, Decides.nat_tests, Decides.Decides-eqb}
 use Rattle.qm_caps.specs.Modes.{bound_of}
-use Rattle.qm_core.specs.declared.TheConstants.{MOST_SESSIONS}
-use Rattle.qm_core.specs.declared.entries.Entry.{Entry}
+use Rattle.qm_core.specs.declared.{TheConstants.MOST_SESSIONS, entries.Entry.Entry, entries.StepFault.StepFault}
 use Rattle.qm_core.specs.declared.entries.Entry.TheVariants as entry
-use Rattle.qm_core.specs.declared.entries.StepFault.{StepFault}
 use Rattle.qm_core.specs.declared.entries.StepFault.TheVariants.{NoSession, Closed, InputEnded, Busy, Nothing, NotRunning, SessionsFull}
-use Rattle.qm_core.specs.declared.monitor.Limits.{Limits}
-use Rattle.qm_core.specs.declared.requests.Request.{Request}
-use Rattle.qm_core.specs.declared.requests.RequestName.{RequestName}
+use Rattle.qm_core.specs.declared.{monitor.Limits.Limits, requests.Request.Request, requests.RequestName.RequestName}
 use Rattle.qm_core.specs.Legal.{past_of, AllFollow, IsLegal}
 use Rattle.qm_core.specs.Next.{Next, View, Step, Open, Admit, Start, Finish, Take, End, Drop, IsCleanStep, entry_of, start_entry, refusal_of, full_refusal, session_refusal, cause_fault, names, is_running}
 use Rattle.qm_core.specs.Order.{MayFollow, cause_holds}

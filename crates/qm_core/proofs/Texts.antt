@@ -1,13 +1,9 @@
 -- The text of a journal and one more entry, and the lengths of lines.
 use Rattle.std.proofs.Common.{◌≡◌, ℕ, ◌+◌, List, [], ◌∷◌, ◌++◌, length, refl, ap, ◌∙◌, append-nil, append_assoc, arith}
-use Rattle.std.specs.Fmt.{decimal}
-use Rattle.std.specs.List.{flat_map}
-use Rattle.std.proofs.lemmas.List.{length-append}
-use Rattle.std.proofs.lemmas.Grind.{flat_map-append}
-use Rattle.qm_core.specs.Texts.{text_from, text_of, entry_text_of, taken_text_of}
-use Rattle.qm_core.specs.Transcript.{wire_of}
-use Rattle.qm_core.specs.declared.entries.Entry.{Entry}
-use Rattle.qm_core.specs.declared.entries.Entry.TheVariants.{Take}
+use Rattle.std.specs.{Fmt.decimal, List.flat_map}
+use Rattle.std.proofs.lemmas.{List.length-append, Grind.flat_map-append}
+use Rattle.qm_core.specs.{Texts.text_from, Texts.text_of, Texts.entry_text_of, Texts.taken_text_of, Transcript.wire_of}
+use Rattle.qm_core.specs.declared.entries.Entry.{Entry, TheVariants.Take}
 
 -- the entries after others are numbered on
 pub text_from-append : (n : ℕ) (front back : List Entry) → text_from n (front ++ back) ≡ text_from n front ++ text_from (n + length front) back

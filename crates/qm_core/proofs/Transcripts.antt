@@ -1,14 +1,11 @@
 -- What a session is sent: the lines that were handed out begin its transcript.
 use Rattle.std.proofs.Common.{◌≡◌, ℕ, ◌==◌, Bool, true, false, not, cond, ◌&&◌, ◌||◌, List, [], ◌∷◌, ◌++◌, length, drop, refl, ap, append_assoc, sym, ◌∙◌, subst}
-use Rattle.std.proofs.Math.Seq.{drop-append_seam, drop-length}
-use Rattle.std.proofs.lemmas.Bool.Decides.{Decides-eqb}
+use Rattle.std.proofs.{Math.Seq.drop-append_seam, Math.Seq.drop-length, lemmas.Bool.Decides.Decides-eqb}
 use Rattle.qm_base.specs.Prefixes.{IsPrefix}
 use Rattle.qm_base.proofs.Prefixes.{empty_prefix, trans_prefix, left_prefix, refl_prefix}
 use Rattle.qm_core.specs.declared.entries.Entry.{Entry}
 use Rattle.qm_core.specs.declared.entries.Entry.TheVariants.{Open, Admit, Start, Done, Take, Eof, Drop}
-use Rattle.qm_core.specs.Legal.{AllFollow}
-use Rattle.qm_core.specs.Standing.{is_open}
-use Rattle.qm_core.specs.Kept.{fits}
+use Rattle.qm_core.specs.{Legal.AllFollow, Standing.is_open, Kept.fits}
 use Rattle.qm_core.specs.Transcript.{Candidate, candidates_of, has_overrun, transcript_of, taken_of, untaken_of, with_line}
 use Rattle.qm_core.proofs.Candidates.{any_overruns, kept_lines, overruns-more, lines-more}
 

@@ -1,7 +1,6 @@
 -- Sessions of which all was answered and handed out (this project's own rule).
 use Rattle.std.specs.Prelude.{ℕ, ◌==◌, Bool, not, ◌&&◌, List, length}
-use Rattle.qm_core.specs.Standing.{is_open, is_ended, in_flight_of}
-use Rattle.qm_core.specs.Transcript.{has_overrun, untaken_of}
+use Rattle.qm_core.specs.{Standing.is_open, Standing.is_ended, Standing.in_flight_of, Transcript.has_overrun, Transcript.untaken_of}
 use Rattle.qm_core.specs.declared.entries.Entry.{Entry}
 
 -- open, its input ended, nothing of it waiting or running, no line untaken, and none that overran

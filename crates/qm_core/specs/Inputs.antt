@@ -1,15 +1,10 @@
 -- What an input says (QMP specification, "Issuing Commands").
 use Rattle.std.specs.Prelude.{ℕ, Bool, true, false, ◌||◌, List, codes, Option, Some, None, find}
-use Rattle.std.specs.Option.{option_and_then}
-use Rattle.std.specs.Str.{bytes_eq}
-use Rattle.qm_json.specs.declared.value.Json.{Json, out-Json}
-use Rattle.qm_json.specs.declared.value.Json.TheOpen.{Json-F}
+use Rattle.std.specs.{Option.option_and_then, Str.bytes_eq}
+use Rattle.qm_json.specs.declared.value.{Json.Json, Json.out-Json, Json.TheOpen.Json-F, Member.Member}
 use Rattle.qm_json.specs.declared.value.Json.TheOpen as layer
-use Rattle.qm_json.specs.declared.value.Member.{Member}
-use Rattle.qm_json.specs.Members.{members_of}
-use Rattle.qm_json.specs.Cleanness.{IsClean}
-use Rattle.qm_core.specs.declared.inputs.Input.{Input}
-use Rattle.qm_core.specs.declared.inputs.Input.TheVariants.{Doc, Bad}
+use Rattle.qm_json.specs.{Members.members_of, Cleanness.IsClean}
+use Rattle.qm_core.specs.declared.inputs.Input.{Input, TheVariants.Doc, TheVariants.Bad}
 
 -- a value in it is one that a text can spell
 abbrev pub IsCleanInput : Input → Type 0

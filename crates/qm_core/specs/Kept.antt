@@ -1,19 +1,14 @@
 -- What the fields of a monitor keep of its journal (this project's own rule). One session is opened at
 -- most, the first.
 use Rattle.std.specs.Prelude.{◌≡◌, ℕ, ◌+◌, ◌≤◌, nat_le, Bool, false, true, not, if◌then◌else◌, ◌&&◌, ◌||◌, List, [], ◌∷◌, ◌++◌, length, Option, None, IfSome, Result, IfOk}
-use Rattle.std.specs.Option.{option_to_list}
-use Rattle.std.specs.Result.{result_err}
+use Rattle.std.specs.{Option.option_to_list, Result.result_err}
 use Rattle.qm_caps.specs.declared.mode.Mode.TheVariants.{Command, Negotiating}
 use Rattle.qm_core.specs.Legal.{past_of, IsLegal, HasRoom, IsWithin, is_within}
 use Rattle.qm_core.specs.Next.{View, Step, full_refusal, refusal_of}
 use Rattle.qm_core.specs.Standing.{sessions_of, is_open, is_dropped, is_ended, open_count_of, admitted_of, mode_of, waiting_of, running_of, last_moment_of}
-use Rattle.qm_core.specs.Texts.{entry_text_of, text_of}
-use Rattle.qm_core.specs.Transcript.{has_overrun, untaken_of, wire_of}
-use Rattle.qm_core.specs.declared.TheConstants.{MOST_ENTRIES, MOST_TEXT, MOST_UNTAKEN}
-use Rattle.qm_core.specs.declared.entries.Entry.{Entry}
-use Rattle.qm_core.specs.declared.entries.StepFault.{StepFault}
-use Rattle.qm_core.specs.declared.monitor.Monitor.TheInside.{Inside as Fields}
-use Rattle.qm_core.specs.declared.requests.Request.{Request}
+use Rattle.qm_core.specs.{Texts.entry_text_of, Texts.text_of, Transcript.has_overrun, Transcript.untaken_of, Transcript.wire_of}
+use Rattle.qm_core.specs.declared.{TheConstants.MOST_ENTRIES, TheConstants.MOST_TEXT, TheConstants.MOST_UNTAKEN, entries.Entry.Entry}
+use Rattle.qm_core.specs.declared.{entries.StepFault.StepFault, monitor.Monitor.TheInside.Inside as Fields, requests.Request.Request}
 use Rattle.qm_core.specs.declared.sessions.Session.{Session}
 
 abbrev pub view_of : Fields → View

@@ -1,11 +1,7 @@
 -- Legal journals, and the room of a journal (this project's own rule).
 use Rattle.std.specs.Prelude.{ℕ, ◌+◌, ◌*◌, ◌≤◌, nat_le, Bool, ◌&&◌, List, [], ◌∷◌, length, reverse}
-use Rattle.qm_core.specs.Order.{MayFollow}
-use Rattle.qm_core.specs.Standing.{open_count_of}
-use Rattle.qm_core.specs.Texts.{text_of}
-use Rattle.qm_core.specs.declared.TheConstants.{DROP_BYTES}
-use Rattle.qm_core.specs.declared.entries.Entry.{Entry}
-use Rattle.qm_core.specs.declared.monitor.Limits.{Limits}
+use Rattle.qm_core.specs.{Order.MayFollow, Standing.open_count_of, Texts.text_of, declared.TheConstants.DROP_BYTES}
+use Rattle.qm_core.specs.declared.{entries.Entry.Entry, monitor.Limits.Limits}
 
 -- the entries of a journal, the newest first
 abbrev pub past_of : List Entry → List Entry

@@ -1,25 +1,14 @@
 -- The steps of a monitor: each is answered by its first refusal, or by its entry (this project's own rule).
 use Rattle.std.specs.Prelude.{◌≡◌, ℕ, ◌+◌, ◌^◌, ◌<◌, ◌==◌, nat_le, max, Bool, false, if◌then◌else◌, ◌&&◌, ◌||◌, List, [], ◌∷◌, ◌++◌, length, reverse, Option, Some, None, is_some, is_none, refl}
-use Rattle.std.specs.Coded.{Coded, code_by, coded×, coded_list, coded_ℕ}
-use Rattle.std.specs.Option.{option_or}
-use Rattle.qm_caps.specs.Modes.{bound_of}
-use Rattle.qm_caps.specs.declared.mode.Lane.TheVariants.{InBand}
-use Rattle.qm_core.specs.Inputs.{IsCleanInput}
-use Rattle.qm_core.specs.Legal.{past_of, is_within}
-use Rattle.qm_core.specs.Order.{reply_of, cause_holds}
+use Rattle.std.specs.{Coded.Coded, Coded.code_by, Coded.coded×, Coded.coded_list, Coded.coded_ℕ, Option.option_or}
+use Rattle.qm_caps.specs.{Modes.bound_of, declared.mode.Lane.TheVariants.InBand}
+use Rattle.qm_core.specs.{Inputs.IsCleanInput, Legal.past_of, Legal.is_within, Order.reply_of, Order.cause_holds}
 use Rattle.qm_core.specs.Standing.{sessions_of, was_opened, is_dropped, is_ended, open_count_of, admitted_of, in_flight_of, mode_of, running_of, starting_of, named_of, last_moment_of}
-use Rattle.qm_core.specs.Texts.{text_of, entry_text_of}
-use Rattle.qm_core.specs.Transcript.{untaken_of}
-use Rattle.qm_core.specs.declared.TheConstants.{MOST_SESSIONS}
-use Rattle.qm_core.specs.declared.entries.Cause.{Cause}
-use Rattle.qm_core.specs.declared.entries.Cause.TheVariants.{Ended}
-use Rattle.qm_core.specs.declared.entries.Entry.{Entry}
+use Rattle.qm_core.specs.{Texts.text_of, Texts.entry_text_of, Transcript.untaken_of, declared.TheConstants.MOST_SESSIONS}
+use Rattle.qm_core.specs.declared.entries.{Cause.Cause, Cause.TheVariants.Ended, Entry.Entry, StepFault.StepFault}
 use Rattle.qm_core.specs.declared.entries.Entry.TheVariants as entry
-use Rattle.qm_core.specs.declared.entries.StepFault.{StepFault}
 use Rattle.qm_core.specs.declared.entries.StepFault.TheVariants.{NoSession, Closed, InputEnded, Busy, Nothing, NotRunning, NotDrained, WrongCause, SessionsFull, JournalFull}
-use Rattle.qm_core.specs.declared.inputs.Input.{Input}
-use Rattle.qm_core.specs.declared.monitor.Limits.{Limits}
-use Rattle.qm_core.specs.declared.requests.RequestName.{RequestName}
+use Rattle.qm_core.specs.declared.{inputs.Input.Input, monitor.Limits.Limits, requests.RequestName.RequestName}
 
 -- what is asked of a monitor
 pub data Step : Type 0 where

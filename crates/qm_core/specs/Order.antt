@@ -1,22 +1,13 @@
 -- Which entry may come next (this project's own rule).
 use Rattle.std.specs.Prelude.{◌≡◌, ℕ, ◌+◌, ◌^◌, ◌<◌, ◌≤◌, Bool, true, false, List, length, Option, Some, None}
-use Rattle.qm_json.specs.declared.value.Json.{Json}
-use Rattle.qm_json.specs.declared.value.Json.TheVariants.{Null}
-use Rattle.qm_caps.specs.Modes.{bound_of}
-use Rattle.qm_caps.specs.declared.mode.Lane.{Lane}
-use Rattle.qm_caps.specs.declared.mode.Lane.TheVariants.{InBand}
-use Rattle.qm_core.specs.Drained.{is_drained}
-use Rattle.qm_core.specs.Inputs.{IsCleanInput}
-use Rattle.qm_core.specs.Replies.{reply_to}
+use Rattle.qm_json.specs.declared.value.Json.{Json, TheVariants.Null}
+use Rattle.qm_caps.specs.{Modes.bound_of, declared.mode.Lane.Lane, declared.mode.Lane.TheVariants.InBand}
+use Rattle.qm_core.specs.{Drained.is_drained, Inputs.IsCleanInput, Replies.reply_to}
 use Rattle.qm_core.specs.Standing.{sessions_of, is_open, is_ended, admitted_of, in_flight_of, mode_of, running_of, starting_of, named_of, last_moment_of}
-use Rattle.qm_core.specs.Transcript.{has_overrun, untaken_of}
-use Rattle.qm_core.specs.declared.TheConstants.{MOST_SESSIONS}
-use Rattle.qm_core.specs.declared.entries.Cause.{Cause}
-use Rattle.qm_core.specs.declared.entries.Cause.TheVariants.{Ended, Overrun, Stopped}
-use Rattle.qm_core.specs.declared.entries.Entry.{Entry}
+use Rattle.qm_core.specs.{Transcript.has_overrun, Transcript.untaken_of, declared.TheConstants.MOST_SESSIONS, declared.entries.Cause.Cause}
+use Rattle.qm_core.specs.declared.entries.{Cause.TheVariants.Ended, Cause.TheVariants.Overrun, Cause.TheVariants.Stopped, Entry.Entry}
 use Rattle.qm_core.specs.declared.entries.Entry.TheVariants.{Open, Admit, Start, Done, Take, Eof, Drop}
-use Rattle.qm_core.specs.declared.inputs.Input.{Input}
-use Rattle.qm_core.specs.declared.requests.Request.{Request}
+use Rattle.qm_core.specs.declared.{inputs.Input.Input, requests.Request.Request}
 
 -- the next session is opened
 pub record MayOpen (past : List Entry) (s : ℕ) : Type 0 where

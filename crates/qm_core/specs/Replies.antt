@@ -1,19 +1,12 @@
 -- Replies (QMP specification, "Commands Responses").
 use Rattle.std.specs.Prelude.{Bool, List, [], ◌∷◌, codes, Option, Some, None}
-use Rattle.qm_json.specs.declared.value.Json.{Json}
+use Rattle.qm_json.specs.{declared.value.Json.Json, declared.value.Member.Member, Members.has_name, Members.members_of, Members.member_of}
 use Rattle.qm_json.specs.declared.value.Json.TheVariants as json
-use Rattle.qm_json.specs.declared.value.Member.{Member}
-use Rattle.qm_json.specs.Members.{has_name, members_of, member_of}
 use Rattle.qm_caps.specs.Greetings.{named, version_value}
-use Rattle.qm_core.specs.Refusals.{class_of, class_name_of, desc_of}
-use Rattle.qm_core.specs.Verdicts.{verdict_of}
-use Rattle.qm_core.specs.declared.inputs.Input.{Input}
-use Rattle.qm_core.specs.declared.inputs.Input.TheVariants.{Doc, Bad}
-use Rattle.qm_core.specs.declared.requests.Request.{Request}
-use Rattle.qm_core.specs.declared.verdicts.Command.{Command}
+use Rattle.qm_core.specs.{Refusals.class_of, Refusals.class_name_of, Refusals.desc_of, Verdicts.verdict_of, declared.inputs.Input.Input}
+use Rattle.qm_core.specs.declared.{inputs.Input.TheVariants.Doc, inputs.Input.TheVariants.Bad, requests.Request.Request}
+use Rattle.qm_core.specs.declared.verdicts.{Command.Command, Refusal.Refusal, Verdict.Verdict}
 use Rattle.qm_core.specs.declared.verdicts.Command.TheVariants as command
-use Rattle.qm_core.specs.declared.verdicts.Refusal.{Refusal}
-use Rattle.qm_core.specs.declared.verdicts.Verdict.{Verdict}
 use Rattle.qm_core.specs.declared.verdicts.Verdict.TheVariants.{Refused, Run}
 
 abbrev pub id_members : Option Json → List Member

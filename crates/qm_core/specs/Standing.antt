@@ -1,17 +1,11 @@
 -- What stands in a journal (this project's own rule).
 -- "past" is the entries before a place, the newest first.
 use Rattle.std.specs.Prelude.{ℕ, ◌+◌, ◌==◌, nat_le, max, Bool, false, not, if◌then◌else◌, ◌&&◌, List, [], ◌∷◌, ◌++◌, length, codes, filter, find, count_by, Option, Some, None, slice_get, option_map, unwrap_or}
-use Rattle.std.specs.List.{list_any, list_all}
-use Rattle.std.specs.Option.{option_and_then}
-use Rattle.std.specs.Str.{bytes_eq}
-use Rattle.qm_caps.specs.declared.mode.Mode.{Mode}
-use Rattle.qm_caps.specs.declared.mode.Mode.TheVariants.{Negotiating, Command}
-use Rattle.qm_core.specs.Inputs.{command_of}
-use Rattle.qm_core.specs.Replies.{is_return}
-use Rattle.qm_core.specs.declared.entries.Entry.{Entry}
+use Rattle.std.specs.{List.list_any, List.list_all, Option.option_and_then, Str.bytes_eq}
+use Rattle.qm_caps.specs.declared.mode.Mode.{Mode, TheVariants.Negotiating, TheVariants.Command}
+use Rattle.qm_core.specs.{Inputs.command_of, Replies.is_return, declared.entries.Entry.Entry}
 use Rattle.qm_core.specs.declared.entries.Entry.TheVariants.{Open, Admit, Start, Done, Eof, Drop}
-use Rattle.qm_core.specs.declared.requests.Request.{Request}
-use Rattle.qm_core.specs.declared.requests.RequestName.{RequestName}
+use Rattle.qm_core.specs.declared.requests.{Request.Request, RequestName.RequestName}
 
 -- the sessions that were opened, in order
 abbrev pub sessions_of : List Entry → List ℕ

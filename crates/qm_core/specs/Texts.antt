@@ -1,22 +1,16 @@
 -- The text of a journal (this project's own rule). Lines end with LF.
 use Rattle.std.specs.Prelude.{ℕ, ◌+◌, List, [], ◌∷◌, ◌++◌, codes, find, length, Option}
-use Rattle.std.specs.Fmt.{decimal}
-use Rattle.std.specs.List.{flat_map}
-use Rattle.std.specs.Str.{bytes_eq}
+use Rattle.std.specs.{Fmt.decimal, List.flat_map, Str.bytes_eq}
 use Rattle.qm_json.specs.Printing.{printed}
-use Rattle.qm_caps.specs.declared.mode.Lane.{Lane}
-use Rattle.qm_caps.specs.declared.mode.Lane.TheVariants.{InBand, Oob}
-use Rattle.qm_core.specs.declared.entries.Cause.{Cause}
+use Rattle.qm_caps.specs.declared.mode.Lane.{Lane, TheVariants.InBand, TheVariants.Oob}
+use Rattle.qm_core.specs.declared.entries.{Cause.Cause, Entry.Entry}
 use Rattle.qm_core.specs.declared.entries.Cause.TheVariants as cause
-use Rattle.qm_core.specs.declared.entries.Entry.{Entry}
 use Rattle.qm_core.specs.declared.entries.Entry.TheVariants.{Open, Admit, Start, Done, Take, Eof, Drop}
-use Rattle.qm_core.specs.declared.inputs.BadInput.{BadInput}
+use Rattle.qm_core.specs.declared.inputs.{BadInput.BadInput, FrameWord.FrameWord}
 use Rattle.qm_core.specs.declared.inputs.BadInput.TheVariants as bad
-use Rattle.qm_core.specs.declared.inputs.FrameWord.{FrameWord}
 use Rattle.qm_core.specs.declared.inputs.FrameWord.TheVariants.{LexError, Unbalanced, TooDeep, TooLong}
-use Rattle.qm_core.specs.declared.inputs.Input.{Input}
+use Rattle.qm_core.specs.declared.inputs.{Input.Input, JsonWord.JsonWord}
 use Rattle.qm_core.specs.declared.inputs.Input.TheVariants as input
-use Rattle.qm_core.specs.declared.inputs.JsonWord.{JsonWord}
 use Rattle.qm_core.specs.declared.inputs.JsonWord.TheVariants.{Expected, Duplicate, BadEscape, BadUtf8}
 
 abbrev pub frame_word_of : FrameWord → List ℕ

@@ -3,9 +3,7 @@ use Rattle.std.specs.Prelude.{ℕ, ◌+◌, ◌==◌, nat_lt, Bool, not, if◌th
 use Rattle.std.specs.List.{flat_map, list_any, take_while}
 use Rattle.qm_json.specs.Printing.{printed}
 use Rattle.qm_caps.specs.Greetings.{greeting_value}
-use Rattle.qm_core.specs.Standing.{is_open}
-use Rattle.qm_core.specs.declared.TheConstants.{MOST_UNTAKEN}
-use Rattle.qm_core.specs.declared.entries.Entry.{Entry}
+use Rattle.qm_core.specs.{Standing.is_open, declared.TheConstants.MOST_UNTAKEN, declared.entries.Entry.Entry}
 use Rattle.qm_core.specs.declared.entries.Entry.TheVariants.{Open, Done, Take}
 
 -- the lines on the wire, each ended by CR LF

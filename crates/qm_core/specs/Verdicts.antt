@@ -2,22 +2,16 @@
 -- specification, "Issuing Commands" and "Capabilities Negotiation"; the order of the checks is this
 -- project's own rule).
 use Rattle.std.specs.Prelude.{ℕ, Bool, true, false, not, if◌then◌else◌, ◌&&◌, ◌||◌, List, [], ◌∷◌, codes, Option, Some, None, unwrap_or, option_map, find, slice_get}
-use Rattle.std.specs.Option.{option_and_then, option_map_or}
-use Rattle.std.specs.Str.{bytes_eq}
-use Rattle.qm_json.specs.declared.value.Json.{Json}
-use Rattle.qm_json.specs.declared.value.Member.{Member}
-use Rattle.qm_json.specs.Members.{has_name, members_of, member_of}
+use Rattle.std.specs.{Option.option_and_then, Option.option_map_or, Str.bytes_eq}
+use Rattle.qm_json.specs.{declared.value.Json.Json, declared.value.Member.Member, Members.has_name, Members.members_of, Members.member_of}
 use Rattle.qm_caps.specs.declared.mode.Mode.{Mode}
 use Rattle.qm_caps.specs.declared.mode.Mode.TheVariants as mode
-use Rattle.qm_core.specs.Inputs.{is_object, string_of, is_verb}
-use Rattle.qm_core.specs.declared.inputs.Input.{Input}
-use Rattle.qm_core.specs.declared.inputs.Input.TheVariants.{Doc, Bad}
-use Rattle.qm_core.specs.declared.verdicts.Command.{Command}
+use Rattle.qm_core.specs.{Inputs.is_object, Inputs.string_of, Inputs.is_verb, declared.inputs.Input.Input}
+use Rattle.qm_core.specs.declared.{inputs.Input.TheVariants.Doc, inputs.Input.TheVariants.Bad, verdicts.Command.Command}
 use Rattle.qm_core.specs.declared.verdicts.Command.TheVariants as command
 use Rattle.qm_core.specs.declared.verdicts.Refusal.{Refusal}
 use Rattle.qm_core.specs.declared.verdicts.Refusal.TheVariants.{BadInput as Malformed, NotAnObject, UnexpectedMember, TwoVerbs, NoVerb, VerbNoString, ArgumentsNoObject, NegotiationExpected, NegotiationComplete, UnknownCommand, UnexpectedArgument}
-use Rattle.qm_core.specs.declared.verdicts.Verdict.{Verdict}
-use Rattle.qm_core.specs.declared.verdicts.Verdict.TheVariants.{Refused, Run}
+use Rattle.qm_core.specs.declared.verdicts.Verdict.{Verdict, TheVariants.Refused, TheVariants.Run}
 
 -- the refusal, where the test holds
 abbrev pub where_holds : Bool → Refusal → Option Refusal

@@ -1,22 +1,15 @@
 -- Open texts with one more byte.
 use Rattle.std.proofs.Common.{◌≡◌, ℕ, ◌+◌, ◌-◌, ◌≤◌, ◌<◌, ◌==◌, nat_le, nat_lt, Bool, true, false, not, cond, ◌&&◌, List, [], ◌∷◌, ◌++◌, length, take, refl, ap, ◌∙◌, subst, arith, append_assoc, length-append}
-use Rattle.std.proofs.lemmas.Bool.{cond_both, and_parts}
-use Rattle.std.proofs.lemmas.Bool.Decides.{nat_tests}
-use Rattle.std.proofs.Math.Bool.{and-true}
+use Rattle.std.proofs.{lemmas.Bool.cond_both, lemmas.Bool.and_parts, lemmas.Bool.Decides.nat_tests, Math.Bool.and-true}
 use Rattle.std.proofs.Math.Seq.{take-append_seam}
 use Rattle.qm_base.specs.Search.{Found}
-use Rattle.qm_frame.specs.declared.step.FrameFault.{FrameFault}
-use Rattle.qm_frame.specs.declared.step.FrameFault.TheVariants.{LexError, TooLong, TooDeep}
-use Rattle.qm_frame.specs.declared.step.TheConstants.{MAX_LENGTH, MAX_DEPTH}
-use Rattle.qm_frame.specs.declared.piece.LastPiece.{LastPiece}
-use Rattle.qm_frame.specs.declared.judging.Judged.{Judged}
-use Rattle.qm_frame.specs.declared.judging.Judged.TheVariants.{Taken, Ends, Wrong}
-use Rattle.qm_frame.specs.declared.judging.State.{State}
-use Rattle.qm_frame.specs.Pieces.{pieces, scans, level_of, is_broken}
+use Rattle.qm_frame.specs.declared.step.FrameFault.{FrameFault, TheVariants.LexError, TheVariants.TooLong, TheVariants.TooDeep}
+use Rattle.qm_frame.specs.declared.{step.TheConstants.MAX_LENGTH, step.TheConstants.MAX_DEPTH, piece.LastPiece.LastPiece}
+use Rattle.qm_frame.specs.declared.judging.Judged.{Judged, TheVariants.Taken, TheVariants.Ends, TheVariants.Wrong}
+use Rattle.qm_frame.specs.{declared.judging.State.State, Pieces.pieces, Pieces.scans, Pieces.level_of, Pieces.is_broken}
 use Rattle.qm_frame.specs.Messages.{begins_open, is_level_open, each_prefix, is_open, is_message, fault_of}
 use Rattle.qm_frame.specs.Machine.{moved, depth_after, state_of, IsWithin, judged}
-use Rattle.qm_frame.proofs.PieceLemmas.{pieces-more}
-use Rattle.qm_frame.proofs.Levels.{level_of-more, depth_after-broken}
+use Rattle.qm_frame.proofs.{PieceLemmas.pieces-more, Levels.level_of-more, Levels.depth_after-broken}
 
 -- the parts of an open text
 record IsOpen (text : List ℕ) : Type 0 where

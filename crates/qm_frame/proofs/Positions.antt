@@ -1,10 +1,7 @@
 -- The place of the first item that passes a test, with one more item.
 use Rattle.std.proofs.Common.{◌≡◌, ℕ, ◌+◌, ◌≤◌, ◌<◌, nat_lt, eqb, Bool, not, cond, List, [], ◌∷◌, ◌++◌, length, Some, None, position, arith, length-append}
-use Rattle.std.specs.List.{position_or_len}
-use Rattle.std.specs.Option.{option_or}
-use Rattle.std.proofs.lemmas.Bool.Decides.{nat_tests}
-use Rattle.std.proofs.lemmas.List.Folds.{position_or_len_push}
-use Rattle.std.proofs.lemmas.List.Sums.{prefix_len-le-length}
+use Rattle.std.specs.{List.position_or_len, Option.option_or}
+use Rattle.std.proofs.lemmas.{Bool.Decides.nat_tests, List.Folds.position_or_len_push, List.Sums.prefix_len-le-length}
 
 place_more : (m l n : ℕ) (b : Bool) → m ≤ l → n ≡ cond (eqb m l) (l + cond b 0 1) m → cond (nat_lt n (l + 1)) (Some n) None ≡ option_or (cond (nat_lt m l) (Some m) None) (cond b (Some l) None)
 place_more m l n b h e = grind (arith, nat_tests)

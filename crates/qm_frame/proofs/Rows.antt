@@ -1,8 +1,7 @@
 -- The definitions at worked examples: they compute to the frames that are expected.
 use Rattle.std.proofs.Common.{◌≡◌, [], ◌∷◌, ◌++◌, Ok, Err, refl, codes}
 use Rattle.qm_frame.specs.declared.step.FrameFault.TheVariants.{LexError, Unbalanced}
-use Rattle.qm_frame.specs.Messages.{is_open, is_message, fault_of}
-use Rattle.qm_frame.specs.Framing.{frames_of}
+use Rattle.qm_frame.specs.{Messages.is_open, Messages.is_message, Messages.fault_of, Framing.frames_of}
 
 unbalanced : frames_of (codes "}{}") ≡ Err Unbalanced ∷ Ok (codes "{}") ∷ []
 unfolding frames_of is_open is_message fault_of

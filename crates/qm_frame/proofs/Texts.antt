@@ -1,17 +1,12 @@
 -- What one more byte of a message does, as the framing has it.
 use Rattle.std.proofs.Common.{◌≡◌, ℕ, ◌<◌, ◌==◌, nat_lt, Bool, true, false, not, cond, ◌&&◌, List, [], ◌∷◌, ◌++◌, length, Ok, Err, refl, arith, ◌⊎◌, inl, inr}
-use Rattle.std.proofs.lemmas.Bool.{and_parts}
-use Rattle.std.proofs.lemmas.Bool.Decides.{nat_tests}
+use Rattle.std.proofs.lemmas.Bool.{and_parts, Decides.nat_tests}
 use Rattle.qm_base.specs.Search.{Piece, Final, after_front}
-use Rattle.qm_frame.specs.declared.step.FrameFault.{FrameFault}
-use Rattle.qm_frame.specs.declared.step.TheConstants.{MAX_LENGTH, MAX_DEPTH}
+use Rattle.qm_frame.specs.declared.step.{FrameFault.FrameFault, TheConstants.MAX_LENGTH, TheConstants.MAX_DEPTH}
 use Rattle.qm_frame.specs.declared.piece.LastPiece.{LastPiece}
 use Rattle.qm_frame.specs.declared.piece.LastPiece.TheVariants.{Whole, Number, Word, Str, Escape, Broken}
-use Rattle.qm_frame.specs.declared.judging.Judged.{Judged}
-use Rattle.qm_frame.specs.declared.judging.Judged.TheVariants.{Taken, Ends, Wrong}
-use Rattle.qm_frame.specs.declared.judging.State.{State}
-use Rattle.qm_frame.specs.Bytes.{is_opener, is_barred, is_reset}
-use Rattle.qm_frame.specs.Messages.{is_open}
+use Rattle.qm_frame.specs.declared.judging.Judged.{Judged, TheVariants.Taken, TheVariants.Ends, TheVariants.Wrong}
+use Rattle.qm_frame.specs.{declared.judging.State.State, Bytes.is_opener, Bytes.is_barred, Bytes.is_reset, Messages.is_open}
 use Rattle.qm_frame.specs.Framing.{Between, Inside, Skipping}
 use Rattle.qm_frame.specs.Machine.{is_plain, state_of, judged, is_run, IsWithin, nothing, step}
 use Rattle.qm_frame.proofs.Opens.{is_open-within, Judges, judged-judges}

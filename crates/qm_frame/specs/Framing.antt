@@ -3,10 +3,8 @@
 -- QMP specification, "Forcing the JSON parser into known-good state".
 use Rattle.std.specs.Prelude.{ℕ, ◌+◌, cond, List, [], ◌∷◌, ◌++◌, length, position, Option, Some, None, Result, Ok, Err}
 use Rattle.qm_base.specs.Search.{Front, Piece, Final, Found, found_after}
-use Rattle.qm_frame.specs.declared.step.FrameFault.{FrameFault}
-use Rattle.qm_frame.specs.declared.step.FrameFault.TheVariants.{LexError, Unbalanced}
-use Rattle.qm_frame.specs.declared.step.Step.{Step}
-use Rattle.qm_frame.specs.declared.step.Step.TheVariants.{More, Frame, Bad}
+use Rattle.qm_frame.specs.declared.step.FrameFault.{FrameFault, TheVariants.LexError, TheVariants.Unbalanced}
+use Rattle.qm_frame.specs.declared.step.Step.{Step, TheVariants.More, TheVariants.Frame, TheVariants.Bad}
 use Rattle.qm_frame.specs.Bytes.{is_space, is_opener, is_closer, is_reset}
 use Rattle.qm_frame.specs.Messages.{is_open, is_message, fault_of}
 

@@ -2,21 +2,16 @@
 -- private functions).
 use Rattle.std.specs.Prelude.{◌≡◌, ◌≤◌, ℕ, ◌+◌, ◌-◌, ◌==◌, nat_lt, Bool, true, false, not, cond, ◌&&◌, List, [], ◌∷◌, ◌++◌, Result}
 use Rattle.qm_base.specs.Search.{Found, after_front}
-use Rattle.qm_frame.specs.declared.step.FrameFault.{FrameFault}
-use Rattle.qm_frame.specs.declared.step.FrameFault.TheVariants.{LexError, TooDeep, TooLong}
-use Rattle.qm_frame.specs.declared.step.TheConstants.{MAX_LENGTH, MAX_DEPTH}
-use Rattle.qm_frame.specs.declared.step.Step.{Step}
+use Rattle.qm_frame.specs.declared.step.FrameFault.{FrameFault, TheVariants.LexError, TheVariants.TooDeep, TheVariants.TooLong}
+use Rattle.qm_frame.specs.declared.step.{TheConstants.MAX_LENGTH, TheConstants.MAX_DEPTH, Step.Step}
 use Rattle.qm_frame.specs.declared.step.Step.TheVariants.{More, Frame, Bad}
 use Rattle.qm_frame.specs.declared.piece.LastPiece.{LastPiece}
 use Rattle.qm_frame.specs.declared.piece.LastPiece.TheVariants.{Whole, Number, Word, Str, Escape, Broken}
-use Rattle.qm_frame.specs.declared.judging.Judged.{Judged}
-use Rattle.qm_frame.specs.declared.judging.Judged.TheVariants.{Taken, Ends, Wrong}
-use Rattle.qm_frame.specs.declared.judging.State.{State}
-use Rattle.qm_frame.specs.declared.framer.Mode.{Mode}
+use Rattle.qm_frame.specs.declared.judging.Judged.{Judged, TheVariants.Taken, TheVariants.Ends, TheVariants.Wrong}
+use Rattle.qm_frame.specs.declared.{judging.State.State, framer.Mode.Mode}
 use Rattle.qm_frame.specs.declared.framer.Mode.TheVariants as modes
 use Rattle.qm_frame.specs.Bytes.{is_single, is_opener, is_closer, begins_number, in_number, is_letter, is_quote, is_barred, is_reset}
-use Rattle.qm_frame.specs.Pieces.{pieces, level_of, is_broken}
-use Rattle.qm_frame.specs.Messages.{is_open}
+use Rattle.qm_frame.specs.{Pieces.pieces, Pieces.level_of, Pieces.is_broken, Messages.is_open}
 use Rattle.qm_frame.specs.Framing.{Residue, Between, Inside, Skipping, closed_by, front_of, answered}
 
 -- a piece that the text ends in

@@ -1,9 +1,7 @@
 -- Texts that are messages, and texts that messages begin with (this project's own rule).
 use Rattle.std.specs.Prelude.{ℕ, ◌-◌, ◌==◌, nat_lt, nat_le, Bool, true, false, cond, ◌&&◌, List, [], ◌∷◌, ◌++◌, length, take}
-use Rattle.qm_frame.specs.declared.step.FrameFault.{FrameFault}
-use Rattle.qm_frame.specs.declared.step.FrameFault.TheVariants.{LexError, TooDeep, TooLong}
-use Rattle.qm_frame.specs.declared.step.TheConstants.{MAX_LENGTH, MAX_DEPTH}
-use Rattle.qm_frame.specs.Bytes.{is_opener}
+use Rattle.qm_frame.specs.declared.step.FrameFault.{FrameFault, TheVariants.LexError, TheVariants.TooDeep, TheVariants.TooLong}
+use Rattle.qm_frame.specs.{declared.step.TheConstants.MAX_LENGTH, declared.step.TheConstants.MAX_DEPTH, Bytes.is_opener}
 use Rattle.qm_frame.specs.Pieces.{scans, level_of}
 
 abbrev pub begins_open : List ℕ → Bool

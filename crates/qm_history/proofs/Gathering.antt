@@ -1,11 +1,8 @@
 -- Laws of text that is gathered before it is put.
 use Rattle.std.proofs.Common.{◌≡◌, ◌<◌, ◌+◌, ℕ, List, [], ◌++◌, Option, Some, None, length, take, get_or, refl, sym, ap, ◌∙◌, append_assoc, append-nil}
-use Rattle.qm_base.specs.Faults.{told_more, HoldsPart}
-use Rattle.qm_base.specs.Prefixes.{IsPrefix}
-use Rattle.qm_base.proofs.Prefixes.{trans_prefix}
-use Rattle.qm_base.proofs.Telling.{part-after, part-so_far, told_more-twice}
-use Rattle.qm_core.specs.Texts.{entry_text_of, text_of}
-use Rattle.qm_core.specs.declared.entries.Entry.{Entry}
+use Rattle.qm_base.specs.{Faults.told_more, Faults.HoldsPart, Prefixes.IsPrefix}
+use Rattle.qm_base.proofs.{Prefixes.trans_prefix, Telling.part-after, Telling.part-so_far, Telling.told_more-twice}
+use Rattle.qm_core.specs.{Texts.entry_text_of, Texts.text_of, declared.entries.Entry.Entry}
 use Rattle.qm_history.specs.Gathering.{Gathers}
 use Rattle.qm_history.proofs.Numbering.{text-next}
 

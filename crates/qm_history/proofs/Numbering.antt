@@ -2,8 +2,7 @@
 use Rattle.std.proofs.Common.{◌≡◌, ℕ, ◌+◌, ◌<◌, ◌≤◌, List, [], ◌∷◌, ◌++◌, length, take, drop, arith, append_assoc, get_or}
 use Rattle.std.proofs.lemmas.Grind.{common_steps}
 use Rattle.qm_base.specs.Prefixes.{IsPrefix}
-use Rattle.qm_core.specs.Texts.{text_from, text_of, entry_text_of}
-use Rattle.qm_core.specs.declared.entries.Entry.{Entry}
+use Rattle.qm_core.specs.{Texts.text_from, Texts.text_of, Texts.entry_text_of, declared.entries.Entry.Entry}
 use Rattle.qm_core.proofs.Texts.{text_from-append}
 
 -- the text of the entries before a place is a part of the text

@@ -1,17 +1,11 @@
 -- Jobs as the entries of a map, and what its calls make of them.
 use Rattle.std.proofs.Common.{◌≡◌, ℕ, suc, Bool, true, false, cond, ◌||◌, List, [], ◌∷◌, ◌++◌, length, map, find, flat_map, Some, None, option_map, is_some, refl, ap, sym, ◌∙◌, subst}
 use Rattle.std.specs.List.{list_any, IsDistinct, AllByRecursion, AllZip}
-use Rattle.std.specs.Map.{keys_of, values_of, lookup, remove_entry, set_value}
-use Rattle.std.specs.Map.Calls.{RetainsPairs}
-use Rattle.std.specs.Str.{bytes_eq}
+use Rattle.std.specs.{Map.keys_of, Map.values_of, Map.lookup, Map.remove_entry, Map.set_value, Map.Calls.RetainsPairs, Str.bytes_eq}
 use Rattle.std.proofs.lemmas.Slice.Eq.{bytes_eq-Decides}
-use Rattle.qm_jobs.specs.Changes.{unit_changes}
-use Rattle.qm_jobs.specs.Listing.{info_of}
-use Rattle.qm_jobs.specs.declared.changes.Change.{Change}
+use Rattle.qm_jobs.specs.{Changes.unit_changes, Listing.info_of, declared.changes.Change.Change, Jobs.Job, Jobs.has_id, Jobs.table_of}
 use Rattle.qm_json.specs.declared.value.Json.{Json}
-use Rattle.qm_jobs.specs.Jobs.{Job, has_id, table_of}
-use Rattle.qm_jobs.specs.States.{is_running, stands, worked}
-use Rattle.qm_jobs.specs.Table.{kept, with_state, state_of}
+use Rattle.qm_jobs.specs.{States.is_running, States.stands, States.worked, Table.kept, Table.with_state, Table.state_of}
 use Rattle.qm_jobs.specs.declared.state.JobState.{JobState}
 
 pub same-items : (xs ys : List ℕ) → AllZip (λ x y. y ≡ x) xs ys → ys ≡ xs

@@ -1,10 +1,7 @@
 -- The changes of jobs (this project's own rule).
 use Rattle.std.specs.Prelude.{ℕ, not, cond, ◌||◌, List, [], map}
-use Rattle.qm_jobs.specs.States.{is_running, has_more, end_of}
-use Rattle.qm_jobs.specs.Ways.{passed}
-use Rattle.qm_jobs.specs.declared.changes.Change.{Change}
-use Rattle.qm_jobs.specs.declared.state.JobState.{JobState}
-use Rattle.qm_jobs.specs.declared.status.Status.{Status}
+use Rattle.qm_jobs.specs.{States.is_running, States.has_more, States.end_of, Ways.passed, declared.changes.Change.Change}
+use Rattle.qm_jobs.specs.declared.{state.JobState.JobState, status.Status.Status}
 
 -- a job passed these statuses
 abbrev pub changes_of : List ℕ → List Status → List Change

@@ -1,9 +1,6 @@
 -- What a verb finds before the table is changed. This serves private functions.
 use Rattle.std.specs.Prelude.{◌≡◌, ◌≢◌, ℕ, List, Result, Ok, Err, IfOk, IfErr}
-use Rattle.qm_jobs.specs.Jobs.{Job}
-use Rattle.qm_jobs.specs.Table.{verb_of, with_state}
-use Rattle.qm_jobs.specs.declared.jobs.Going.{Going}
-use Rattle.qm_jobs.specs.declared.jobs.JobFault.{JobFault}
+use Rattle.qm_jobs.specs.{Jobs.Job, Table.verb_of, Table.with_state, declared.jobs.Going.Going, declared.jobs.JobFault.JobFault}
 use Rattle.qm_jobs.specs.declared.jobs.JobFault.TheVariants.{Memory}
 use Rattle.qm_plan.specs.declared.verbs.Verb.{Verb}
 

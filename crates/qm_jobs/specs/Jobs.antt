@@ -1,7 +1,6 @@
 -- A job of the table (this project's own rule).
 use Rattle.std.specs.Prelude.{ℕ, Bool, List, map, refl}
-use Rattle.std.specs.Coded.{Coded, code_by, coded×, coded_list, coded_ℕ}
-use Rattle.std.specs.Str.{bytes_eq}
+use Rattle.std.specs.{Coded.Coded, Coded.code_by, Coded.coded×, Coded.coded_list, Coded.coded_ℕ, Str.bytes_eq}
 use Rattle.qm_jobs.specs.declared.state.JobState.{JobState}
 
 -- its id, and how it stands

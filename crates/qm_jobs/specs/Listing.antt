@@ -1,9 +1,7 @@
 -- The answer of `query-jobs` (QEMU QMP Reference Manual, "query-jobs").
 use Rattle.std.specs.Prelude.{ℕ, pos, List, [], ◌∷◌, codes, map}
-use Rattle.qm_jobs.specs.Jobs.{Job}
-use Rattle.qm_jobs.specs.Statuses.{name_of}
-use Rattle.qm_json.specs.declared.value.Json.{Json}
-use Rattle.qm_json.specs.declared.value.Json.TheVariants.{Int, Str, Arr, Obj}
+use Rattle.qm_jobs.specs.{Jobs.Job, Statuses.name_of}
+use Rattle.qm_json.specs.declared.value.Json.{Json, TheVariants.Int, TheVariants.Str, TheVariants.Arr, TheVariants.Obj}
 use Rattle.qm_json.specs.declared.value.Member.{Member}
 
 abbrev pub named : List ℕ → Json → Member

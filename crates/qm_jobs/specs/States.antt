@@ -1,10 +1,7 @@
 -- How a job stands, and what one unit of work makes of it (this project's own rule).
 use Rattle.std.specs.Prelude.{◌+◌, nat_lt, Bool, true, false, cond}
-use Rattle.qm_jobs.specs.Ways.{reached}
-use Rattle.qm_jobs.specs.declared.state.JobState.{JobState}
-use Rattle.qm_jobs.specs.declared.status.Status.{Status}
+use Rattle.qm_jobs.specs.{Ways.reached, declared.state.JobState.JobState, declared.status.Status.Status, declared.ways.Way.Way}
 use Rattle.qm_jobs.specs.declared.status.Status.TheVariants as status
-use Rattle.qm_jobs.specs.declared.ways.Way.{Way}
 use Rattle.qm_jobs.specs.declared.ways.Way.TheVariants.{To, End}
 
 abbrev pub is_at_running : Status → Bool

@@ -2,17 +2,11 @@
 -- in the order of starting.
 use Rattle.std.specs.Prelude.{◌≡◌, ◌≢◌, ℕ, nat_le, Bool, cond, List, [], ◌∷◌, ◌++◌, length, find, flat_map, Option, Some, None, option_map, Result, Ok, Err, IfOk, IfErr, OnErr}
 use Rattle.std.specs.List.{list_any}
-use Rattle.qm_jobs.specs.Changes.{changes_of, unit_changes}
-use Rattle.qm_jobs.specs.Jobs.{Job, has_id}
-use Rattle.qm_jobs.specs.States.{stands, gone, worked}
-use Rattle.qm_jobs.specs.Ways.{way_of, passed}
-use Rattle.qm_jobs.specs.declared.changes.Change.{Change}
-use Rattle.qm_jobs.specs.declared.jobs.JobFault.{JobFault}
+use Rattle.qm_jobs.specs.{Changes.changes_of, Changes.unit_changes, Jobs.Job, Jobs.has_id, States.stands, States.gone, States.worked}
+use Rattle.qm_jobs.specs.{Ways.way_of, Ways.passed, declared.changes.Change.Change, declared.jobs.JobFault.JobFault}
 use Rattle.qm_jobs.specs.declared.jobs.JobFault.TheVariants.{NoJob, JobExists, NotInThisState, JobsFull, Memory}
-use Rattle.qm_jobs.specs.declared.jobs.TheConstants.{MOST_JOBS}
-use Rattle.qm_jobs.specs.declared.state.JobState.{JobState}
-use Rattle.qm_jobs.specs.declared.status.Status.TheVariants.{Created, Running}
-use Rattle.qm_jobs.specs.declared.ways.Way.{Way}
+use Rattle.qm_jobs.specs.declared.{jobs.TheConstants.MOST_JOBS, state.JobState.JobState}
+use Rattle.qm_jobs.specs.declared.{status.Status.TheVariants.Created, status.Status.TheVariants.Running, ways.Way.Way}
 use Rattle.qm_plan.specs.declared.verbs.Verb.{Verb}
 
 -- what a call does: the changes in order, and the table after them

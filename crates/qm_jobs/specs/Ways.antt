@@ -3,8 +3,7 @@
 use Rattle.std.specs.Prelude.{Bool, cond, List, [], ◌∷◌, Option, Some, None}
 use Rattle.qm_jobs.specs.declared.status.Status.{Status}
 use Rattle.qm_jobs.specs.declared.status.Status.TheVariants.{Running, Paused, Ready, Standby, Waiting, Pending, Aborting, Concluded, Null}
-use Rattle.qm_jobs.specs.declared.ways.Way.{Way}
-use Rattle.qm_jobs.specs.declared.ways.Way.TheVariants.{To, End, Abort}
+use Rattle.qm_jobs.specs.declared.ways.Way.{Way, TheVariants.To, TheVariants.End, TheVariants.Abort}
 use Rattle.qm_plan.specs.declared.verbs.Verb.{Verb}
 use Rattle.qm_plan.specs.declared.verbs.Verb.TheVariants.{Cancel, Pause, Resume, Complete, Finalize, Dismiss}
 

@@ -1,12 +1,10 @@
 -- What is asked of a clean value, layer by layer.
 use Rattle.std.proofs.Common.{◌≡◌, ℕ, Bool, true, not, ◌&&◌, List, [], ◌∷◌, map, refl, ap, sym, ◌∙◌}
 use Rattle.std.specs.Prelude.{ℤ}
-use Rattle.std.specs.List.{list_all}
-use Rattle.std.specs.Str.{is_utf8}
+use Rattle.std.specs.{List.list_all, Str.is_utf8}
 use Rattle.std.proofs.lemmas.List.Folds.{list_all-map}
-use Rattle.qm_json.specs.declared.value.Json.{Json}
+use Rattle.qm_json.specs.declared.value.{Json.Json, Member.Member}
 use Rattle.qm_json.specs.declared.value.Json.TheVariants as json
-use Rattle.qm_json.specs.declared.value.Member.{Member}
 use Rattle.qm_json.specs.declared.value.Json.TheOpen as layer
 use Rattle.qm_json.specs.declared.value.Json.TheFolds.{fold-Member, fold-roll-Json, fold-roll-Member}
 use Rattle.qm_json.specs.declared.value.Json.TheVariants.{rolls-Null, rolls-Bool, rolls-Int, rolls-Num, rolls-Str, rolls-Arr, rolls-Obj}

@@ -1,12 +1,9 @@
 -- Members with distinct names.
 use Rattle.std.proofs.Common.{◌≡◌, ℕ, true, false, not, List, [], ◌∷◌, ◌++◌, map, refl, ap, sym}
-use Rattle.std.specs.List.{list_any}
-use Rattle.std.specs.Str.{bytes_eq}
+use Rattle.std.specs.{List.list_any, Str.bytes_eq}
 use Rattle.std.proofs.lemmas.Bool.{and_from, and_parts, or_from, or_parts, not-true, false_from_ne_true, both_ways}
 use Rattle.std.proofs.lemmas.Slice.Eq.{bytes_eq-Decides}
-use Rattle.qm_json.specs.declared.value.Member.{Member}
-use Rattle.qm_json.specs.Cleanness.{are_distinct}
-use Rattle.qm_json.specs.Members.{has_name}
+use Rattle.qm_json.specs.{declared.value.Member.Member, Cleanness.are_distinct, Members.has_name}
 
 abbrev pub names : List Member → List (List ℕ)
 names members = map (λ m. m.name) members

@@ -2,13 +2,11 @@
 use Rattle.std.proofs.Common.{ℕ, Bool, List, [], ◌∷◌, map, sym, subst}
 use Rattle.std.specs.Prelude.{ℤ}
 use Rattle.std.specs.List.{AllByRecursion}
-use Rattle.qm_json.specs.declared.value.Json.{Json, roll-Json, map-Json}
-use Rattle.qm_json.specs.declared.value.Member.{Member}
+use Rattle.qm_json.specs.declared.value.{Json.Json, Json.roll-Json, Json.map-Json, Member.Member}
 use Rattle.qm_json.specs.declared.value.Json.TheVariants as json
 use Rattle.qm_json.specs.declared.value.Json.TheVariants.{rolls-Null, rolls-Bool, rolls-Int, rolls-Num, rolls-Str, rolls-Arr, rolls-Obj}
-use Rattle.qm_json.specs.declared.value.Json.TheOpen.{Json-F}
+use Rattle.qm_json.specs.declared.value.Json.{TheOpen.Json-F, TheFolds.ind-Json}
 use Rattle.qm_json.specs.declared.value.Json.TheOpen as layer
-use Rattle.qm_json.specs.declared.value.Json.TheFolds.{ind-Json}
 
 -- what is asked of each sort of value, where its parts have the property
 pub record Inductive (P : Json → Type 0) : Type 0 where

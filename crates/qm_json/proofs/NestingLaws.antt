@@ -1,11 +1,9 @@
 -- How deep values are nested, layer by layer.
 use Rattle.std.proofs.Common.{◌≡◌, ℕ, ◌+◌, ◌≤◌, Bool, List, [], ◌∷◌, ◌++◌, map, ap, sym, ◌∙◌, arith}
 use Rattle.std.specs.Prelude.{ℤ}
-use Rattle.qm_json.specs.declared.value.Json.{Json}
+use Rattle.qm_json.specs.declared.value.{Json.Json, Member.Member, Json.TheFolds.fold-roll-Json, Json.TheFolds.fold-roll-Member}
 use Rattle.qm_json.specs.declared.value.Json.TheVariants as json
-use Rattle.qm_json.specs.declared.value.Member.{Member}
 use Rattle.qm_json.specs.declared.value.Json.TheOpen as layer
-use Rattle.qm_json.specs.declared.value.Json.TheFolds.{fold-roll-Json, fold-roll-Member}
 use Rattle.qm_json.specs.declared.value.Json.TheVariants.{rolls-Null, rolls-Bool, rolls-Int, rolls-Num, rolls-Str, rolls-Arr, rolls-Obj}
 use Rattle.qm_json.specs.Nesting.{depth, depth_member, depth_layer, depth_member_layer, deepest}
 

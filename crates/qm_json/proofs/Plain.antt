@@ -1,9 +1,7 @@
 -- Strings in which each byte stands for itself.
 use Rattle.std.proofs.Common.{◌≡◌, ℕ, ◌<◌, true, List, [], ◌∷◌, ◌++◌, chars, IsAscii, zero, suc, refl, ap, ◌∙◌, arith, lit<}
 use Rattle.std.specs.List.{list_all}
-use Rattle.std.proofs.lemmas.Str.{utf8_lossy-IsUtf8, IsUtf8-from_ascii, chars-IsAscii}
-use Rattle.std.proofs.lemmas.Bool.{and_parts}
-use Rattle.std.proofs.lemmas.Bool.Decides.{nat_tests}
+use Rattle.std.proofs.lemmas.{Str.utf8_lossy-IsUtf8, Str.IsUtf8-from_ascii, Str.chars-IsAscii, Bool.and_parts, Bool.Decides.nat_tests}
 use Rattle.qm_json.specs.Strings.{code_points, escaped, escapes, is_plain}
 
 -- a byte that stands for itself is ASCII

@@ -1,14 +1,11 @@
 -- What is printed, layer by layer.
 use Rattle.std.proofs.Common.{◌≡◌, ℕ, Bool, cond, List, codes, map, IsUtf8, ap, sym, ◌∙◌}
 use Rattle.std.specs.Prelude.{ℤ}
-use Rattle.std.specs.Fmt.{signed_decimal}
-use Rattle.std.specs.Str.{chars}
+use Rattle.std.specs.{Fmt.signed_decimal, Str.chars}
 use Rattle.std.proofs.lemmas.Str.{utf8_lossy-IsUtf8}
-use Rattle.qm_json.specs.declared.value.Json.{Json}
+use Rattle.qm_json.specs.declared.value.{Json.Json, Member.Member, Json.TheFolds.fold-roll-Json, Json.TheFolds.fold-roll-Member}
 use Rattle.qm_json.specs.declared.value.Json.TheVariants as json
-use Rattle.qm_json.specs.declared.value.Member.{Member}
 use Rattle.qm_json.specs.declared.value.Json.TheOpen as layer
-use Rattle.qm_json.specs.declared.value.Json.TheFolds.{fold-roll-Json, fold-roll-Member}
 use Rattle.qm_json.specs.declared.value.Json.TheVariants.{rolls-Null, rolls-Bool, rolls-Int, rolls-Num, rolls-Str, rolls-Arr, rolls-Obj}
 use Rattle.qm_json.specs.Strings.{code_points, quoted}
 use Rattle.qm_json.specs.Printing.{printed, printed_member, print_layer, member_layer, member_text, array_text, object_text}

@@ -1,14 +1,9 @@
 -- Literals of whole numbers: each is a literal, and a whole number's printed text is its literal.
 use Rattle.std.proofs.Common.{◌≡◌, ℕ, ◌+◌, ◌%◌, ◌^◌, ◌<◌, ◌≤◌, zero, suc, true, false, ◌||◌, ◌==◌, Some, List, [], ◌∷◌, ◌++◌, length, get_or, take, take_all, ℤ, pos, negsuc, refl, ap, ◌∙◌, arith}
 use Rattle.std.specs.Prelude.{nat_lt, neg_ℤ, int_le, int_lt}
-use Rattle.std.specs.List.{list_all}
-use Rattle.std.specs.Char.{is_ascii_digit}
-use Rattle.std.specs.Fmt.{decimal, signed_decimal}
+use Rattle.std.specs.{List.list_all, Char.is_ascii_digit, Fmt.decimal, Fmt.signed_decimal}
 use Rattle.std.specs.Str.Parse.{digits_value, signed_digits_value}
-use Rattle.std.proofs.lemmas.Bool.{and_from, and_parts}
-use Rattle.std.proofs.lemmas.List.{drop_all}
-use Rattle.std.proofs.lemmas.Bool.Decides.{nat_tests}
-use Rattle.std.proofs.lemmas.List.Folds.{list_all-append}
+use Rattle.std.proofs.lemmas.{Bool.and_from, Bool.and_parts, List.drop_all, Bool.Decides.nat_tests, List.Folds.list_all-append}
 use Rattle.std.proofs.lemmas.Fmt.{decimal_by_steps, decimal_nonempty, first_decimal, decimal_digit, decimal_is_IsNumeral}
 use Rattle.qm_json.specs.Numbers.{is_digits, is_whole_part, is_literal, is_unsigned_literal, is_fraction, digits_len, after_minus, is_in_whole_range, is_whole_literal, whole_of}
 

@@ -2,13 +2,10 @@
 -- names of an object are distinct, a whole number is in its range, and any other number is a literal
 -- that is not of such a whole number. That names are distinct, and the range, is this project's own rule.
 use Rattle.std.specs.Prelude.{ℕ, Bool, true, not, ◌&&◌, List, [], ◌∷◌, map, IsTrue}
-use Rattle.std.specs.List.{list_all, list_any}
-use Rattle.std.specs.Str.{bytes_eq, is_utf8}
-use Rattle.qm_json.specs.Numbers.{is_literal, is_whole_literal, is_in_whole_range}
-use Rattle.qm_json.specs.declared.value.Json.{Json}
-use Rattle.qm_json.specs.declared.value.Json.TheOpen.{Json-F, Member-F}
+use Rattle.std.specs.{List.list_all, List.list_any, Str.bytes_eq, Str.is_utf8}
+use Rattle.qm_json.specs.{Numbers.is_literal, Numbers.is_whole_literal, Numbers.is_in_whole_range, declared.value.Json.Json}
+use Rattle.qm_json.specs.declared.value.Json.{TheOpen.Json-F, TheOpen.Member-F, TheFolds.fold-Json, TheFolds.fold-Member}
 use Rattle.qm_json.specs.declared.value.Json.TheOpen as layer
-use Rattle.qm_json.specs.declared.value.Json.TheFolds.{fold-Json, fold-Member}
 use Rattle.qm_json.specs.declared.value.Member.{Member}
 
 -- what the layer above asks of a member

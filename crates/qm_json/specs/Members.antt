@@ -1,12 +1,8 @@
 -- Members of objects by their names (RFC 8259, section 4).
 use Rattle.std.specs.Prelude.{ℕ, Bool, List, [], Option, option_map, find}
-use Rattle.std.specs.List.{list_any}
-use Rattle.std.specs.Str.{bytes_eq}
-use Rattle.qm_json.specs.declared.value.Json.{Json}
-use Rattle.qm_json.specs.declared.value.Json.TheOpen.{Json-F}
-use Rattle.qm_json.specs.declared.value.Json.{out-Json}
+use Rattle.std.specs.{List.list_any, Str.bytes_eq}
+use Rattle.qm_json.specs.declared.value.{Json.Json, Json.TheOpen.Json-F, Json.out-Json, Member.Member}
 use Rattle.qm_json.specs.declared.value.Json.TheOpen as layer
-use Rattle.qm_json.specs.declared.value.Member.{Member}
 
 -- some member has the name
 abbrev pub has_name : List Member → List ℕ → Bool

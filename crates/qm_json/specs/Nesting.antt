@@ -1,9 +1,7 @@
 -- How deep a value is nested (RFC 8259, section 9).
 use Rattle.std.specs.Prelude.{ℕ, ◌+◌, max, List, [], ◌∷◌}
-use Rattle.qm_json.specs.declared.value.Json.{Json}
-use Rattle.qm_json.specs.declared.value.Json.TheOpen.{Json-F, Member-F}
+use Rattle.qm_json.specs.declared.value.Json.{Json, TheOpen.Json-F, TheOpen.Member-F, TheFolds.fold-Json, TheFolds.fold-Member}
 use Rattle.qm_json.specs.declared.value.Json.TheOpen as layer
-use Rattle.qm_json.specs.declared.value.Json.TheFolds.{fold-Json, fold-Member}
 use Rattle.qm_json.specs.declared.value.Member.{Member}
 
 -- the greatest of some depths, and 0 of none

@@ -1,9 +1,7 @@
 -- Literals of numbers (RFC 8259, section 6), and which of them are kept as whole numbers (this
 -- project's own rule).
 use Rattle.std.specs.Prelude.{ℕ, ◌^◌, Bool, true, false, cond, ◌&&◌, ◌||◌, ◌==◌, nat_lt, List, [], ◌∷◌, length, take, drop, ℤ, pos, neg_ℤ, int_le, int_lt, Option, Some, None}
-use Rattle.std.specs.List.{list_all, prefix_len}
-use Rattle.std.specs.Char.{is_ascii_digit}
-use Rattle.std.specs.Str.Parse.{signed_digits_value}
+use Rattle.std.specs.{List.list_all, List.prefix_len, Char.is_ascii_digit, Str.Parse.signed_digits_value}
 
 -- how many digits stand at the front
 abbrev pub digits_len : List ℕ → ℕ

@@ -1,11 +1,9 @@
 -- The text of a value (RFC 8259, sections 3 to 7; its blanks are this project's own rule).
 use Rattle.std.specs.Prelude.{ℕ, ◌^◌, ◌-◌, min, Bool, true, false, cond, List, [], ◌∷◌, ◌++◌, codes, flat_map}
 use Rattle.std.specs.Fmt.{signed_decimal}
-use Rattle.qm_json.specs.Strings.{quoted}
-use Rattle.qm_json.specs.declared.value.Json.{Json}
-use Rattle.qm_json.specs.declared.value.Json.TheOpen.{Json-F, Member-F}
+use Rattle.qm_json.specs.{Strings.quoted, declared.value.Json.Json}
+use Rattle.qm_json.specs.declared.value.Json.{TheOpen.Json-F, TheOpen.Member-F, TheFolds.fold-Json, TheFolds.fold-Member}
 use Rattle.qm_json.specs.declared.value.Json.TheOpen as layer
-use Rattle.qm_json.specs.declared.value.Json.TheFolds.{fold-Json, fold-Member}
 use Rattle.qm_json.specs.declared.value.Member.{Member}
 
 abbrev pub after_comma : List ℕ → List ℕ

@@ -1,8 +1,7 @@
 -- Strings as they are printed (RFC 8259, section 7; what is escaped beyond its needs, and what is
 -- done with bytes that are not UTF-8, is this project's own rule).
 use Rattle.std.specs.Prelude.{ℕ, ◌+◌, ◌/◌, ◌%◌, ◌==◌, ◌||◌, ◌&&◌, not, nat_lt, nat_le, Bool, cond, List, [], ◌∷◌, ◌++◌, chars, codes, flat_map}
-use Rattle.std.specs.Char.Escape.{encode_utf16}
-use Rattle.std.specs.Str.Lossy.{utf8_lossy}
+use Rattle.std.specs.{Char.Escape.encode_utf16, Str.Lossy.utf8_lossy}
 
 -- the code points of a string, with U+FFFD for each part that is not UTF-8
 abbrev pub code_points : List ℕ → List ℕ

@@ -1,10 +1,8 @@
 -- The order of turns, and the first of a list in it.
 use Rattle.std.proofs.Common.{◌≡◌, ℕ, ◌+◌, ◌==◌, nat_lt, Bool, true, false, not, cond, ◌&&◌, ◌||◌, List, [], ◌∷◌, ◌++◌, find, take, length, get_or, ◌<◌, Option, Some, None, refl, ap, sym, ◌∙◌, subst, arith, ◌⊎◌, inl, inr}
 use Rattle.std.specs.List.{list_any}
-use Rattle.std.proofs.lemmas.Bool.Decides.{nat_tests}
-use Rattle.std.proofs.lemmas.List.{take_more}
-use Rattle.qm_queue.specs.Turns.{starts_earlier, precedes, first_of, earlier_of}
-use Rattle.qm_queue.specs.declared.turns.TurnItem.{TurnItem}
+use Rattle.std.proofs.lemmas.{Bool.Decides.nat_tests, List.take_more}
+use Rattle.qm_queue.specs.{Turns.starts_earlier, Turns.precedes, Turns.first_of, Turns.earlier_of, declared.turns.TurnItem.TurnItem}
 
 abbrev start_rank : Option ℕ → ℕ
 start_rank None = 0

@@ -1,14 +1,10 @@
 -- The tree over the places of a list: one place told, one place more, and what its root tells.
 use Rattle.std.proofs.Common.{◌≡◌, ◌≢◌, ℕ, ◌+◌, ◌-◌, ◌*◌, ◌/◌, ◌<◌, ◌≤◌, zero, suc, List, [], ◌∷◌, ◌++◌, length, IfSome, take, Option, Some, None, Bool, true, false, nat_eq, ◌&&◌, refl, ap, sym, ◌∙◌, subst, arith, length-append, ◌⊎◌, inl, inr}
-use Rattle.std.proofs.Math.ListN.{set, length-set}
-use Rattle.std.proofs.Math.Seq.{take-append_seam}
-use Rattle.std.proofs.lemmas.Bool.{cases_eq}
-use Rattle.std.proofs.lemmas.List.{get_or-set_same, get_or-set_other}
+use Rattle.std.proofs.{Math.ListN.set, Math.ListN.length-set, Math.Seq.take-append_seam, lemmas.Bool.cases_eq}
+use Rattle.std.proofs.lemmas.{List.get_or-set_same, List.get_or-set_other, Bool.Decides.nat_tests}
 use Rattle.std.specs.Option.{option_eq}
-use Rattle.std.proofs.lemmas.Bool.Decides.{nat_tests}
 use Rattle.qm_queue.specs.Trees.{IsTree, IsTreeBut, IsNumbered, item_at, best_below}
-use Rattle.qm_queue.specs.Turns.{earlier_of, waiting_in, first_of, IsOpened}
-use Rattle.qm_queue.specs.declared.turns.TurnItem.{TurnItem}
+use Rattle.qm_queue.specs.{Turns.earlier_of, Turns.waiting_in, Turns.first_of, Turns.IsOpened, declared.turns.TurnItem.TurnItem}
 use Rattle.qm_queue.proofs.Orders.{Leads, leads-self, earlier-left, earlier-right, earlier-is, Among, IsFirst, first-is}
 
 abbrev Items : Type 0

@@ -1,8 +1,7 @@
 -- A tree over the places of a list, in which each place tells the best of its own item and of what stands
 -- below it. Below the place k stand the places 2k+1 and 2k+2.
 use Rattle.std.specs.Prelude.{◌≡◌, ◌≢◌, ℕ, ◌+◌, ◌*◌, List, length, Option, Some, None, slice_index_or}
-use Rattle.qm_queue.specs.Turns.{earlier_of}
-use Rattle.qm_queue.specs.declared.turns.TurnItem.{TurnItem}
+use Rattle.qm_queue.specs.{Turns.earlier_of, declared.turns.TurnItem.TurnItem}
 
 -- what stands at a place, and none past the end
 abbrev pub item_at : List (Option TurnItem) → ℕ → Option TurnItem

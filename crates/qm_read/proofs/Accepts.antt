@@ -1,20 +1,14 @@
 -- What spells a value is read as that value.
 use Rattle.std.proofs.Common.{◌≡◌, ℕ, ◌+◌, nat_lt, suc, true, false, List, [], ◌∷◌, ◌++◌, length, Result, Ok, refl, ap, sym, ◌∙◌, arith, append_assoc}
-use Rattle.std.proofs.lemmas.List.{append-nil}
-use Rattle.std.proofs.lemmas.Bool.Decides.{nat_tests}
-use Rattle.qm_read.specs.declared.fault.JsonFault.{JsonFault}
-use Rattle.qm_json.specs.declared.value.Json.{Json}
-use Rattle.qm_json.specs.declared.value.Member.{Member}
+use Rattle.std.proofs.lemmas.{List.append-nil, Bool.Decides.nat_tests}
+use Rattle.qm_read.specs.declared.{fault.JsonFault.JsonFault, stack.Open.Open}
+use Rattle.qm_json.specs.{declared.value.Json.Json, declared.value.Member.Member, Members.has_name}
 use Rattle.qm_read.specs.declared.token.Token.TheVariants as tokens
-use Rattle.qm_read.specs.declared.stack.Open.{Open}
-use Rattle.qm_read.specs.declared.stack.Open.TheVariants.{Top, Arr, Obj}
-use Rattle.qm_read.specs.declared.stack.Expect.{Expect}
+use Rattle.qm_read.specs.declared.stack.{Open.TheVariants.Top, Open.TheVariants.Arr, Open.TheVariants.Obj, Expect.Expect}
 use Rattle.qm_read.specs.declared.stack.Expect.TheVariants.{Value, ValueOrEnd, Name, NameOrEnd, CommaOrEnd}
 use Rattle.qm_frame.specs.declared.step.TheConstants.{MAX_DEPTH}
-use Rattle.qm_json.specs.Members.{has_name}
 use Rattle.qm_read.specs.Stacks.{State, begun, takes_value, takes_name, put}
-use Rattle.qm_read.specs.Faults.{run, ended, reading}
-use Rattle.qm_read.specs.Tokens.{Placed, at}
+use Rattle.qm_read.specs.{Faults.run, Faults.ended, Faults.reading, Tokens.Placed, Tokens.at}
 use Rattle.qm_read.specs.Spelling.{SpellsValue, null, bool, int, num, string, no_items, array, no_members, object, SpellsItems, item, more_items, SpellsMembers, member, more_members}
 
 abbrev pub going : List Open → Expect → State

@@ -1,16 +1,9 @@
 -- Walks over a text, loops that take it part by part, and what is read once its first lexeme was taken.
 use Rattle.std.proofs.Common.{◌≡◌, ◌≢◌, ℕ, ◌+◌, ◌-◌, ◌<◌, ◌≤◌, zero, suc, List, [], ◌∷◌, take, drop, length, Result, Ok, Err, refl, ap, sym, ◌∙◌, arith, slice_index, add-one, ◌++◌, Option, Some, None}
-use Rattle.std.proofs.lemmas.List.{length-drop, drop-drop}
-use Rattle.std.proofs.Math.ListN.{drop_of_length-le}
-use Rattle.qm_read.specs.declared.fault.JsonFault.{JsonFault}
-use Rattle.qm_read.specs.declared.fault.JsonFault.TheVariants.{Memory}
-use Rattle.qm_read.specs.Progress.{Advances, reading_from}
-use Rattle.qm_read.specs.Walks.{walk}
-use Rattle.qm_read.specs.declared.token.Lexeme.{Lexeme}
-use Rattle.qm_read.specs.declared.token.Token.{Token}
-use Rattle.qm_read.specs.Faults.{run, on, ended, reading_of}
-use Rattle.qm_read.specs.Stacks.{State, begun}
-use Rattle.qm_read.specs.Steps.{step}
+use Rattle.std.proofs.{lemmas.List.length-drop, lemmas.List.drop-drop, Math.ListN.drop_of_length-le}
+use Rattle.qm_read.specs.declared.fault.JsonFault.{JsonFault, TheVariants.Memory}
+use Rattle.qm_read.specs.{Progress.Advances, Progress.reading_from, Walks.walk, declared.token.Lexeme.Lexeme, declared.token.Token.Token}
+use Rattle.qm_read.specs.{Faults.run, Faults.on, Faults.ended, Faults.reading_of, Stacks.State, Stacks.begun, Steps.step}
 use Rattle.qm_read.specs.Tokens.{Placed, lexeme_of, placed, with_later, tokens_here, tokens_from, tokens_of}
 
 -- what is passed over is left out

@@ -1,23 +1,15 @@
 -- The tokens of a text hold what a clean value may hold, and stand in the text.
 use Rattle.std.proofs.Common.{◌≡◌, ℕ, ◌+◌, ◌*◌, ◌<◌, ◌≤◌, true, false, cond, ◌&&◌, ◌||◌, ◌==◌, Bool, zero, suc, List, [], ◌∷◌, take, drop, length, Option, Some, None, Result, Ok, Err, IfSome, refl, arith, add-one, ◌++◌, codes}
-use Rattle.std.proofs.lemmas.Bool.{and_parts, cond_both}
-use Rattle.std.proofs.lemmas.Bool.Decides.{nat_tests}
-use Rattle.std.proofs.lemmas.List.{length-take, take_min}
+use Rattle.std.proofs.lemmas.{Bool.and_parts, Bool.cond_both, Bool.Decides.nat_tests, List.length-take, List.take_min}
 use Rattle.std.proofs.lemmas.Str.{IsUtf8-append, IsUtf8-encode, IsUtf8-nil, IsUtf8-from_is_utf8, is_utf8-from_IsUtf8}
-use Rattle.std.specs.Char.{digit_value, IsScalar}
-use Rattle.std.specs.Char.Utf16.{is_high_surrogate, is_low_surrogate, surrogate_pair_char}
-use Rattle.std.specs.Str.{continuation_len, is_utf8, IsUtf8, bytes_eq}
-use Rattle.qm_read.specs.declared.fault.JsonFault.{JsonFault}
-use Rattle.qm_read.specs.declared.strings.Part.{Part}
+use Rattle.std.specs.Char.{digit_value, IsScalar, Utf16.is_high_surrogate, Utf16.is_low_surrogate, Utf16.surrogate_pair_char}
+use Rattle.std.specs.{Str.continuation_len, Str.is_utf8, Str.IsUtf8, Str.bytes_eq, List.prefix_len, Str.Parse.signed_digits_value}
+use Rattle.qm_read.specs.declared.{fault.JsonFault.JsonFault, strings.Part.Part}
 use Rattle.qm_read.specs.Escapes.{is_hex, hex_of, unicode_of, pair_of, unicode_escape, escaped_byte, short_escape, escape}
 use Rattle.qm_read.specs.Strings.{part, text_in, more_in, followed_by, after_part, text_after, text_of, takes_next, ends_string, string_length}
-use Rattle.qm_read.specs.Texts.{IsWithin}
-use Rattle.std.specs.List.{prefix_len}
-use Rattle.std.specs.Str.Parse.{signed_digits_value}
+use Rattle.qm_read.specs.{Texts.IsWithin, declared.token.Lexeme.Lexeme, declared.token.Token.Token}
 use Rattle.qm_frame.specs.Bytes.{is_space, begins_number, in_number, is_letter, is_quote}
 use Rattle.qm_json.specs.Numbers.{is_literal, is_whole_part, after_minus, is_whole_literal, is_in_whole_range}
-use Rattle.qm_read.specs.declared.token.Lexeme.{Lexeme}
-use Rattle.qm_read.specs.declared.token.Token.{Token}
 use Rattle.qm_read.specs.declared.token.Token.TheVariants as tokens
 use Rattle.qm_read.specs.Tokens.{Placed, literal_token, number_token, word_token, mark_token, string_token, stop_at, string_lexeme, lexeme_of, placed, tokens_here, tokens_of}
 use Rattle.qm_read.specs.Walks.{walk}

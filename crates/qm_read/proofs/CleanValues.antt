@@ -2,23 +2,18 @@
 -- fault stands.
 use Rattle.std.proofs.Common.{◌≡◌, ℕ, ◌≤◌, Bool, true, not, List, [], ◌∷◌, ◌++◌, length, refl, ap, ◌∙◌, arith, map}
 use Rattle.qm_json.specs.Numbers.{is_literal, is_whole_literal}
-use Rattle.std.specs.List.{list_all}
-use Rattle.std.specs.Str.{is_utf8}
-use Rattle.std.proofs.lemmas.Bool.{and_from}
-use Rattle.std.proofs.lemmas.List.Folds.{list_all-append}
+use Rattle.std.specs.{List.list_all, Str.is_utf8}
+use Rattle.std.proofs.lemmas.{Bool.and_from, List.Folds.list_all-append}
 use Rattle.qm_json.specs.Cleanness.{IsClean, is_clean, is_clean_member, are_distinct}
-use Rattle.qm_json.specs.declared.value.Json.{Json}
-use Rattle.qm_json.specs.declared.value.Member.{Member}
+use Rattle.qm_json.specs.{declared.value.Json.Json, declared.value.Member.Member, Nesting.depth, Nesting.depth_member, Nesting.deepest}
 use Rattle.qm_json.proofs.CleanLaws.{is_clean-Null, is_clean-Bool, is_clean-Int, is_clean-Num, is_clean-Str, is_clean-Arr, is_clean-Obj, is_clean_member-is}
 use Rattle.qm_json.proofs.Distinct.{names, distinct-more}
 use Rattle.qm_read.specs.declared.token.Token.TheVariants as tokens
-use Rattle.qm_read.specs.declared.fault.JsonFault.{JsonFault}
-use Rattle.qm_read.specs.Texts.{Spells, HasFault, IsWithin}
+use Rattle.qm_read.specs.{declared.fault.JsonFault.JsonFault, Texts.Spells, Texts.HasFault, Texts.IsWithin}
 use Rattle.qm_read.specs.Viable.{FirstFault, wrong, misplaced, twice, short}
 use Rattle.qm_read.specs.Tokens.{Placed, at, tokens_of}
 use Rattle.qm_read.specs.Spelling.{SpellsValue, null, bool, int, num, string, no_items, array, no_members, object, SpellsItems, item, more_items, SpellsMembers, member, more_members}
 use Rattle.qm_read.proofs.CleanTokens.{AreSound, sound-front, sound-rest, tokens-sound}
-use Rattle.qm_json.specs.Nesting.{depth, depth_member, deepest}
 use Rattle.qm_json.proofs.NestingLaws.{depth-Null, depth-Bool, depth-Int, depth-Num, depth-Str, depth-Arr, depth-Obj, depth_member-is, deepest-more}
 
 clean-member : (name : List ℕ) (v : Json) → is_utf8 name ≡ true → is_clean v ≡ true → is_clean_member (record { name = name; value = v }) ≡ true

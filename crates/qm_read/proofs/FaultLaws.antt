@@ -1,20 +1,15 @@
 -- A text that is refused has the fault at the first token with which no value begins any more, and
 -- tokens with a first fault are refused with it.
 use Rattle.std.proofs.Common.{◌≡◌, List, [], ◌∷◌, ◌++◌, Result, Ok, Err, refl, ℕ, inl, inr, ap, sym, ◌∙◌, subst, append_assoc, append-nil}
-use Rattle.qm_read.specs.declared.fault.JsonFault.{JsonFault}
-use Rattle.qm_read.specs.Tokens.{Placed, at}
-use Rattle.qm_read.specs.Stacks.{State, begun}
+use Rattle.qm_read.specs.{declared.fault.JsonFault.JsonFault, Tokens.Placed, Tokens.at, Stacks.State, Stacks.begun}
 use Rattle.qm_read.specs.Faults.{run, on, whole, ended, reading}
 use Rattle.qm_frame.specs.declared.step.TheConstants.{MAX_DEPTH}
 use Rattle.qm_json.specs.declared.value.Json.{Json}
-use Rattle.qm_read.specs.declared.fault.JsonFault.TheVariants.{Expected, Duplicate}
-use Rattle.qm_read.specs.declared.token.Token.{Token}
+use Rattle.qm_read.specs.declared.{fault.JsonFault.TheVariants.Expected, fault.JsonFault.TheVariants.Duplicate, token.Token.Token}
 use Rattle.qm_read.specs.declared.token.Token.TheVariants as tokens
-use Rattle.qm_read.specs.Spelling.{SpellsValue}
-use Rattle.qm_read.specs.Steps.{step}
+use Rattle.qm_read.specs.{Spelling.SpellsValue, Steps.step}
 use Rattle.qm_read.specs.Viable.{BeginsValue, IsMisplaced, FirstFault, wrong, misplaced, twice, short}
-use Rattle.qm_read.proofs.Accepts.{reading-spelled}
-use Rattle.qm_read.proofs.Holds.{taken_begins, spelled}
+use Rattle.qm_read.proofs.{Accepts.reading-spelled, Holds.taken_begins, Holds.spelled}
 use Rattle.qm_read.proofs.Refusals.{Refuses, refuses, StrRefused, string_refused, too_short}
 
 on_run : (r : Result State JsonFault) (ts us : List Placed) → ((s : State) → run s (ts ++ us) ≡ on (run s ts) (λ next. run next us)) → on r (λ s. run s (ts ++ us)) ≡ on (on r (λ s. run s ts)) (λ next. run next us)

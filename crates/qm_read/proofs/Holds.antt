@@ -1,25 +1,17 @@
 -- What is read as a value spells it.
 use Rattle.std.proofs.Common.{◌≡◌, ℕ, ◌+◌, ◌<◌, nat_lt, zero, suc, Bool, true, false, cond, List, [], ◌∷◌, ◌++◌, length, Result, Ok, Err, refl, ap, sym, ◌∙◌, subst, arith, append_assoc}
-use Rattle.std.proofs.lemmas.List.{append-nil}
-use Rattle.std.proofs.lemmas.Bool.Decides.{nat_tests}
-use Rattle.qm_read.specs.declared.fault.JsonFault.{JsonFault}
-use Rattle.qm_json.specs.declared.value.Json.{Json}
+use Rattle.std.proofs.lemmas.{List.append-nil, Bool.Decides.nat_tests}
+use Rattle.qm_read.specs.declared.{fault.JsonFault.JsonFault, token.Token.Token, stack.Open.Open}
+use Rattle.qm_json.specs.{declared.value.Json.Json, declared.value.Member.Member, Members.has_name}
 use Rattle.qm_json.specs.declared.value.Json.TheVariants as json
-use Rattle.qm_json.specs.declared.value.Member.{Member}
-use Rattle.qm_read.specs.declared.token.Token.{Token}
 use Rattle.qm_read.specs.declared.token.Token.TheVariants as tokens
-use Rattle.qm_read.specs.declared.stack.Open.{Open}
 use Rattle.qm_read.specs.declared.stack.Open.TheVariants.{Top, Arr, Obj, Whole}
 use Rattle.qm_read.specs.declared.stack.Expect.{Expect}
 use Rattle.qm_read.specs.declared.stack.Expect.TheVariants.{Value, ValueOrEnd, Name, NameOrEnd, Colon, CommaOrEnd, End}
 use Rattle.qm_frame.specs.declared.step.TheConstants.{MAX_DEPTH}
-use Rattle.qm_json.specs.Members.{has_name}
-use Rattle.qm_read.specs.Stacks.{State, begun, put, left}
-use Rattle.qm_read.specs.Steps.{step}
-use Rattle.qm_read.specs.Faults.{whole, run, on, ended, reading}
+use Rattle.qm_read.specs.{Stacks.State, Stacks.begun, Stacks.put, Stacks.left, Steps.step}
+use Rattle.qm_read.specs.{Faults.whole, Faults.run, Faults.on, Faults.ended, Faults.reading, Viable.BeginsValue, Tokens.Placed, Tokens.at}
 use Rattle.qm_read.proofs.Refusals.{fresh, fresh_name}
-use Rattle.qm_read.specs.Viable.{BeginsValue}
-use Rattle.qm_read.specs.Tokens.{Placed, at}
 use Rattle.qm_read.specs.Spelling.{SpellsValue, null, bool, int, num, string, no_items, array, no_members, object, SpellsItems, item, more_items, SpellsMembers, member, more_members}
 
 abbrev going : List Open → Expect → State

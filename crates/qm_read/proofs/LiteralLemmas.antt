@@ -1,16 +1,9 @@
 -- Literals of whole numbers, as `parse` reads them.
 use Rattle.std.proofs.Common.{◌≡◌, ℕ, ◌<◌, Bool, true, false, cond, ◌||◌, ◌==◌, nat_lt, List, [], ◌∷◌, length, refl, subst, arith}
-use Rattle.std.proofs.lemmas.Int.{ints}
-use Rattle.std.proofs.lemmas.Bool.{and_parts, false_from_ne_true}
-use Rattle.std.proofs.lemmas.Bool.Decides.{nat_tests}
-use Rattle.std.proofs.lemmas.Fmt.{IsAscii-from_digits}
-use Rattle.std.proofs.lemmas.Str.{IsUtf8-from_ascii}
-use Rattle.std.proofs.lemmas.Str.Ascii.{IsAscii-cons}
-use Rattle.std.specs.Char.{digit_value, is_ascii_digit}
-use Rattle.std.specs.List.{list_all}
+use Rattle.std.proofs.lemmas.{Int.ints, Bool.and_parts, Bool.false_from_ne_true, Bool.Decides.nat_tests, Fmt.IsAscii-from_digits}
+use Rattle.std.proofs.lemmas.Str.{IsUtf8-from_ascii, Ascii.IsAscii-cons}
+use Rattle.std.specs.{Char.digit_value, Char.is_ascii_digit, List.list_all, Int.w128, Str.IsUtf8, Str.IsAscii}
 use Rattle.std.specs.Prelude.{ℤ, FitsSigned, drop}
-use Rattle.std.specs.Int.{w128}
-use Rattle.std.specs.Str.{IsUtf8, IsAscii}
 use Rattle.std.specs.Str.Parse.{AllDigits, IsNumeral, without_leading_sign, signed_digits_value}
 use Rattle.qm_json.specs.Numbers.{is_digits, is_whole_part, after_minus, is_in_whole_range}
 

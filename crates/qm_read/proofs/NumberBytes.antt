@@ -1,9 +1,7 @@
 -- Literals of numbers are runs of the bytes of numbers.
 use Rattle.std.proofs.Common.{◌≡◌, ℕ, ◌+◌, Bool, true, false, cond, ◌&&◌, ◌||◌, ◌==◌, nat_lt, suc, List, [], ◌∷◌, take, drop, refl, subst, arith}
-use Rattle.std.specs.Char.{is_ascii_digit}
-use Rattle.std.specs.List.{list_all}
-use Rattle.std.proofs.lemmas.Bool.{and_from, and_parts}
-use Rattle.std.proofs.lemmas.Bool.Decides.{nat_tests}
+use Rattle.std.specs.{Char.is_ascii_digit, List.list_all}
+use Rattle.std.proofs.lemmas.Bool.{and_from, and_parts, Decides.nat_tests}
 use Rattle.qm_frame.specs.Bytes.{is_space, begins_number, in_number}
 use Rattle.qm_json.specs.Numbers.{digits_len, is_digits, after_sign, is_exponent, is_fraction, is_whole_part, is_unsigned_literal, is_literal}
 

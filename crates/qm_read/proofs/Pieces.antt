@@ -4,24 +4,15 @@ use Rattle.std.specs.List.{list_all, flat_map, prefix_len}
 use Rattle.std.proofs.lemmas.Bool.{and_parts, or_parts, not-true, cond-true, cond-false}
 use Rattle.std.proofs.Math.Seq.{take-append_seam, drop-append_seam, drop-append-add}
 use Rattle.qm_frame.specs.Bytes.{is_space, in_number, is_letter}
-use Rattle.qm_json.specs.declared.value.Json.{Json}
-use Rattle.qm_json.specs.Printing.{after_comma}
-use Rattle.qm_json.specs.Strings.{code_points, escapes, quoted}
-use Rattle.qm_read.specs.declared.fault.JsonFault.{JsonFault}
-use Rattle.qm_read.specs.declared.stack.Expect.TheVariants.{CommaOrEnd}
-use Rattle.qm_read.specs.declared.stack.Open.{Open}
-use Rattle.qm_read.specs.declared.token.Lexeme.{Lexeme}
-use Rattle.qm_read.specs.declared.token.Token.{Token}
+use Rattle.qm_json.specs.{declared.value.Json.Json, Printing.after_comma, Strings.code_points, Strings.escapes, Strings.quoted}
+use Rattle.qm_read.specs.declared.{fault.JsonFault.JsonFault, stack.Expect.TheVariants.CommaOrEnd, stack.Open.Open, token.Lexeme.Lexeme}
+use Rattle.qm_read.specs.{declared.token.Token.Token, Faults.run, Faults.on, Faults.ended, Stacks.State, Steps.step}
 use Rattle.qm_read.specs.declared.token.Token.TheVariants as tokens
-use Rattle.qm_read.specs.Faults.{run, on, ended}
-use Rattle.qm_read.specs.Stacks.{State}
 use Rattle.qm_read.specs.Stacks as stacks
-use Rattle.qm_read.specs.Steps.{step}
 use Rattle.qm_read.specs.Strings.{takes_next, ends_string, string_length, text_of}
 use Rattle.qm_read.specs.Tokens.{Placed, at, number_token, word_token, run_lexeme, with_later, tokens_here, tokens_from}
 use Rattle.qm_read.specs.Walks.{walk}
-use Rattle.qm_read.proofs.NumberBytes.{IsRun}
-use Rattle.qm_read.proofs.PrintedStrings.{points-inside, points-read, stays}
+use Rattle.qm_read.proofs.{NumberBytes.IsRun, PrintedStrings.points-inside, PrintedStrings.points-read, PrintedStrings.stays}
 use Rattle.qm_read.proofs.Advancing.{passed}
 
 -- no number or word goes on with the text

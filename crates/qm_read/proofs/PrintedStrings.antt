@@ -1,18 +1,13 @@
 -- A printed string is read as the bytes that it was printed for.
 use Rattle.std.proofs.Common.{◌≡◌, ℕ, ◌+◌, ◌-◌, ◌/◌, ◌%◌, ◌*◌, ◌<◌, ◌≤◌, Bool, true, false, not, ◌&&◌, ◌||◌, ◌==◌, nat_lt, List, [], ◌∷◌, ◌++◌, Option, Some, Result, Ok, refl, ap, ◌∙◌, arith, nat_le, codes, IsUtf8, sym, subst}
-use Rattle.std.specs.Char.{digit_value, encode_utf8, IsScalar}
-use Rattle.std.specs.Char.Utf16.{is_high_surrogate, is_low_surrogate, surrogate_pair_char}
-use Rattle.std.specs.List.{flat_map}
-use Rattle.std.proofs.lemmas.Bool.{cond_both, cond-true, cond-false, ltb-true, ltb-false, and_parts, eqb-true}
-use Rattle.std.proofs.lemmas.Bool.Decides.{nat_tests}
+use Rattle.std.specs.Char.{digit_value, encode_utf8, IsScalar, Utf16.is_high_surrogate, Utf16.is_low_surrogate, Utf16.surrogate_pair_char}
+use Rattle.std.specs.{List.flat_map, Str.chars, Str.encode_utf8_all, Str.all_scalars}
+use Rattle.std.proofs.lemmas.Bool.{cond_both, cond-true, cond-false, ltb-true, ltb-false, and_parts, eqb-true, Decides.nat_tests}
 use Rattle.qm_json.specs.Strings.{hex_digit, unit_escape, unicode_escape, code_points, plain_or_unicode, escaped, escapes}
-use Rattle.qm_read.specs.declared.fault.JsonFault.{JsonFault}
-use Rattle.qm_read.specs.declared.strings.Part.{Part}
-use Rattle.qm_read.specs.declared.strings.Part.TheVariants.{Char}
+use Rattle.qm_read.specs.declared.{fault.JsonFault.JsonFault, strings.Part.Part, strings.Part.TheVariants.Char}
 use Rattle.qm_read.specs.Escapes.{is_hex, hex_of, unicode_of, pair_of}
 use Rattle.qm_read.specs.Escapes as escapes_read
 use Rattle.qm_read.specs.Strings.{takes_next, ends_string, part, followed_by, after_part, text_after, is_control, text_of}
-use Rattle.std.specs.Str.{chars, encode_utf8_all, all_scalars}
 use Rattle.std.proofs.lemmas.Str.{encode_ascii, encodes-chars, scalars-chars}
 use Rattle.qm_json.proofs.PrintLaws.{code_points-IsUtf8}
 use Rattle.qm_read.proofs.StringLemmas.{character_ascii}

@@ -1,44 +1,29 @@
 -- The printed text of a clean value is read as the value.
 use Rattle.std.proofs.Common.{◌≡◌, ℕ, ◌+◌, ◌≤◌, zero, suc, true, false, List, [], ◌∷◌, ◌++◌, map, codes, Result, Ok, refl, ap, sym, ◌∙◌, subst, arith, append_assoc, append-nil, Bool, not, cond, length, Some, None}
-use Rattle.std.specs.List.{list_all, flat_map, AllByRecursion}
-use Rattle.std.specs.Str.{is_utf8}
-use Rattle.std.proofs.lemmas.Bool.{and_parts, cond-true, cond-false, not-true}
-use Rattle.std.proofs.lemmas.Str.{IsUtf8-from_is_utf8}
-use Rattle.qm_json.specs.declared.value.Json.{Json}
+use Rattle.std.specs.{List.list_all, List.flat_map, List.AllByRecursion, Str.is_utf8, Fmt.signed_decimal, Str.Parse.signed_digits_value}
+use Rattle.std.proofs.lemmas.{Bool.and_parts, Bool.cond-true, Bool.cond-false, Bool.not-true, Str.IsUtf8-from_is_utf8}
+use Rattle.qm_json.specs.declared.value.{Json.Json, Member.Member}
 use Rattle.qm_json.specs.declared.value.Json.TheVariants as json
-use Rattle.qm_json.specs.declared.value.Member.{Member}
-use Rattle.qm_json.specs.Cleanness.{is_clean, is_clean_member, are_distinct, IsClean}
-use Rattle.qm_json.specs.Members.{has_name}
+use Rattle.qm_json.specs.{Cleanness.is_clean, Cleanness.is_clean_member, Cleanness.are_distinct, Cleanness.IsClean, Members.has_name}
 use Rattle.qm_json.specs.Printing.{printed, printed_member, after_comma, array_text, object_text}
-use Rattle.qm_json.specs.Strings.{quoted}
+use Rattle.qm_json.specs.{Strings.quoted, Nesting.depth, Nesting.depth_member, Nesting.deepest}
 use Rattle.qm_json.proofs.CleanLaws.{is_clean_member-is, is_clean-Int, is_clean-Num, is_clean-Str, is_clean-Arr, is_clean-Obj}
 use Rattle.qm_json.proofs.PrintLaws.{printed_member-is, printed-Null, printed-Bool, printed-Int, printed-Num, printed-Str, printed-Arr, printed-Obj}
-use Rattle.qm_read.specs.declared.fault.JsonFault.{JsonFault}
+use Rattle.qm_read.specs.declared.{fault.JsonFault.JsonFault, stack.Open.Open}
 use Rattle.qm_read.specs.declared.token.Token.TheVariants as tokens
-use Rattle.qm_read.specs.declared.stack.Open.{Open}
-use Rattle.qm_read.specs.declared.stack.Open.TheVariants.{Arr, Obj, Top}
-use Rattle.qm_read.specs.declared.stack.Expect.{Expect}
+use Rattle.qm_read.specs.declared.stack.{Open.TheVariants.Arr, Open.TheVariants.Obj, Open.TheVariants.Top, Expect.Expect}
 use Rattle.qm_read.specs.declared.stack.Expect.TheVariants.{Value, ValueOrEnd, Name, NameOrEnd, Colon, CommaOrEnd}
-use Rattle.qm_read.specs.Stacks.{State, takes_value, takes_name, put, begun}
-use Rattle.qm_read.specs.Steps.{step, value_step}
-use Rattle.qm_read.specs.Faults.{ended, reading_of}
-use Rattle.qm_read.specs.Tokens.{tokens_from, number_token, literal_token, tokens_of}
-use Rattle.qm_json.specs.Nesting.{depth, depth_member, deepest}
-use Rattle.qm_json.proofs.Distinct.{names, new-name}
-use Rattle.qm_json.proofs.NestingLaws.{depth_member-is, depth-Arr, depth-Obj}
+use Rattle.qm_read.specs.{Stacks.State, Stacks.takes_value, Stacks.takes_name, Stacks.put, Stacks.begun, Steps.step, Steps.value_step}
+use Rattle.qm_read.specs.{Faults.ended, Faults.reading_of, Tokens.tokens_from, Tokens.number_token, Tokens.literal_token, Tokens.tokens_of}
+use Rattle.qm_json.proofs.{Distinct.names, Distinct.new-name, NestingLaws.depth_member-is, NestingLaws.depth-Arr, NestingLaws.depth-Obj}
 use Rattle.qm_read.proofs.Accepts.{going, Room, opens_array, opens_object, deeper, not_name}
 use Rattle.qm_read.proofs.Pieces.{Leads, read_from, ends_run, string-leads, space-leads, comma-leads, commas-end, number-leads, null-leads, bool-leads}
 use Rattle.std.specs.Prelude.{ℤ}
-use Rattle.std.specs.Fmt.{signed_decimal}
-use Rattle.std.specs.Str.Parse.{signed_digits_value}
 use Rattle.qm_json.specs.Numbers.{is_literal, is_whole_literal, is_in_whole_range}
-use Rattle.qm_json.proofs.Wholes.{whole_of-printed, literal-printed}
+use Rattle.qm_json.proofs.{Wholes.whole_of-printed, Wholes.literal-printed, Inductions.Inductive, Inductions.every-Json}
 use Rattle.qm_frame.specs.declared.step.TheConstants.{MAX_DEPTH}
-use Rattle.qm_read.specs.declared.token.Token.{Token}
-use Rattle.qm_json.proofs.Inductions.{Inductive, every-Json}
-use Rattle.qm_read.specs.Texts.{Spells}
-use Rattle.qm_read.proofs.NumberBytes.{literal-run}
-use Rattle.qm_read.proofs.Results.{value_spelled}
+use Rattle.qm_read.specs.{declared.token.Token.Token, Texts.Spells}
+use Rattle.qm_read.proofs.{NumberBytes.literal-run, Results.value_spelled}
 
 module _ (n : ℕ) (answer : Result Json JsonFault) where
   -- from the state the text leads to the answer

@@ -3,15 +3,11 @@
 use Rattle.std.proofs.Common.{◌≡◌, ℕ, ◌≤◌, ◌<◌, Bool, true, false, ◌||◌, List, [], ◌∷◌, ◌++◌, length, refl, ap, arith, length-append, ◌+◌, nat_lt, cond, ◌&&◌, ◌⊎◌, inl, inr, Result, Ok, Err}
 use Rattle.std.specs.Str.{bytes_eq}
 use Rattle.std.proofs.lemmas.Slice.Eq.{bytes_eq-Decides}
-use Rattle.qm_json.specs.declared.value.Member.{Member}
-use Rattle.qm_json.specs.Members.{has_name}
+use Rattle.qm_json.specs.{declared.value.Member.Member, Members.has_name}
 use Rattle.qm_frame.specs.declared.step.TheConstants.{MAX_DEPTH}
 use Rattle.qm_json.specs.declared.value.Json.TheVariants as json
-use Rattle.qm_read.specs.declared.fault.JsonFault.{JsonFault}
-use Rattle.qm_read.specs.declared.fault.JsonFault.TheVariants.{Expected, Duplicate}
-use Rattle.qm_read.specs.declared.stack.Expect.{Expect}
-use Rattle.qm_read.specs.declared.stack.Expect.TheVariants.{Colon, CommaOrEnd}
-use Rattle.qm_read.specs.declared.stack.Open.{Open}
+use Rattle.qm_read.specs.declared.fault.JsonFault.{JsonFault, TheVariants.Expected, TheVariants.Duplicate}
+use Rattle.qm_read.specs.declared.stack.{Expect.Expect, Expect.TheVariants.Colon, Expect.TheVariants.CommaOrEnd, Open.Open}
 use Rattle.qm_read.specs.declared.stack.Open.TheVariants.{Top, Arr, Obj, Whole}
 use Rattle.qm_read.specs.declared.token.Token.{Token}
 use Rattle.qm_read.specs.declared.token.Token.TheVariants as tokens

@@ -1,18 +1,11 @@
 -- What a text is read as, by what it spells and by its first fault.
 use Rattle.std.proofs.Common.{◌≡◌, ◌≢◌, ℕ, ◌≤◌, List, length, Result, Ok, Err, IfOk, IfErr, sym}
-use Rattle.qm_json.specs.Cleanness.{IsClean}
-use Rattle.qm_json.specs.declared.value.Json.{Json}
-use Rattle.qm_json.specs.Nesting.{depth}
+use Rattle.qm_json.specs.{Cleanness.IsClean, declared.value.Json.Json, Nesting.depth}
 use Rattle.qm_frame.specs.declared.step.TheConstants.{MAX_DEPTH}
-use Rattle.qm_read.specs.declared.fault.JsonFault.{JsonFault}
-use Rattle.qm_read.specs.declared.fault.JsonFault.TheVariants.{Memory}
-use Rattle.qm_read.specs.Faults.{reading_of}
-use Rattle.qm_read.specs.Texts.{Spells, HasFault, IsWithin}
-use Rattle.qm_read.specs.Tokens.{tokens_of}
-use Rattle.qm_read.proofs.Accepts.{reading-spelled}
-use Rattle.qm_read.proofs.CleanValues.{nested, spelled-clean, fault-within}
-use Rattle.qm_read.proofs.FaultLaws.{reading-faulty, first_fault}
-use Rattle.qm_read.proofs.Holds.{spelled}
+use Rattle.qm_read.specs.{declared.fault.JsonFault.JsonFault, declared.fault.JsonFault.TheVariants.Memory, Faults.reading_of}
+use Rattle.qm_read.specs.{Texts.Spells, Texts.HasFault, Texts.IsWithin, Tokens.tokens_of}
+use Rattle.qm_read.proofs.{Accepts.reading-spelled, CleanValues.nested, CleanValues.spelled-clean, CleanValues.fault-within}
+use Rattle.qm_read.proofs.{FaultLaws.reading-faulty, FaultLaws.first_fault, Holds.spelled}
 
 pub value_spelled : (text : List ℕ) (v : Json) → reading_of text ≡ Ok v → Spells text v
 unfolding reading_of

@@ -2,13 +2,8 @@
 -- relations (this project's own rule).
 use Rattle.std.specs.Prelude.{ℕ, List, [], ◌∷◌, length, Result, Ok, Err}
 use Rattle.qm_json.specs.declared.value.Json.{Json}
-use Rattle.qm_read.specs.declared.fault.JsonFault.{JsonFault}
-use Rattle.qm_read.specs.declared.fault.JsonFault.TheVariants.{Expected}
-use Rattle.qm_read.specs.declared.stack.Open.{Open}
-use Rattle.qm_read.specs.declared.stack.Open.TheVariants.{Whole}
-use Rattle.qm_read.specs.Stacks.{State, begun}
-use Rattle.qm_read.specs.Steps.{step}
-use Rattle.qm_read.specs.Tokens.{Placed, tokens_of}
+use Rattle.qm_read.specs.declared.{fault.JsonFault.JsonFault, fault.JsonFault.TheVariants.Expected, stack.Open.Open}
+use Rattle.qm_read.specs.{declared.stack.Open.TheVariants.Whole, Stacks.State, Stacks.begun, Steps.step, Tokens.Placed, Tokens.tokens_of}
 
 abbrev pub on : Result State JsonFault → (State → Result State JsonFault) → Result State JsonFault
 on (Ok s) next = next s

@@ -1,13 +1,9 @@
 -- The inputs of a stream of bytes: each of its messages read, and each of its faults (this
 -- project's own rule).
 use Rattle.std.specs.Prelude.{ℕ, List, map, Result, Ok, Err}
-use Rattle.qm_frame.specs.Framing.{frames_of}
-use Rattle.qm_frame.specs.declared.step.FrameFault.{FrameFault}
-use Rattle.qm_json.specs.Cleanness.{IsClean}
-use Rattle.qm_json.specs.declared.value.Json.{Json}
-use Rattle.qm_read.specs.Faults.{reading_of}
-use Rattle.qm_read.specs.declared.fault.JsonFault.{JsonFault}
-use Rattle.qm_read.specs.declared.taken.Taken.{Taken}
+use Rattle.qm_frame.specs.{Framing.frames_of, declared.step.FrameFault.FrameFault}
+use Rattle.qm_json.specs.{Cleanness.IsClean, declared.value.Json.Json}
+use Rattle.qm_read.specs.{Faults.reading_of, declared.fault.JsonFault.JsonFault, declared.taken.Taken.Taken}
 use Rattle.qm_read.specs.declared.taken.Taken.TheVariants.{Value, BadFrame, BadText}
 
 abbrev pub read_as : Result Json JsonFault → Taken

@@ -1,12 +1,8 @@
 -- What a step of reading makes of what was read before it. This serves private functions.
 use Rattle.std.specs.Prelude.{◌≡◌, ◌≢◌, ℕ, ◌+◌, ◌<◌, ◌≤◌, List, length, drop, Result, Ok, Err}
 use Rattle.qm_json.specs.declared.value.Json.{Json}
-use Rattle.qm_read.specs.declared.fault.JsonFault.{JsonFault}
-use Rattle.qm_read.specs.declared.fault.JsonFault.TheVariants.{Memory}
-use Rattle.qm_read.specs.Faults.{run, ended}
-use Rattle.qm_read.specs.Stacks.{State}
-use Rattle.qm_read.specs.Strings.{followed_by, text_after}
-use Rattle.qm_read.specs.Tokens.{tokens_from}
+use Rattle.qm_read.specs.{declared.fault.JsonFault.JsonFault, declared.fault.JsonFault.TheVariants.Memory, Faults.run, Faults.ended}
+use Rattle.qm_read.specs.{Stacks.State, Strings.followed_by, Strings.text_after, Tokens.tokens_from}
 
 -- a token was taken, or refused, or memory was wanting
 abbrev pub Steps : Result State JsonFault → Result (Unit {0}) JsonFault → State → Type 0

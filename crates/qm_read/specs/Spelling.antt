@@ -1,10 +1,8 @@
 -- Which tokens spell a value: a grammar by cases (RFC 8259, sections 2 to 5; that names are
 -- distinct is this project's own rule).
 use Rattle.std.specs.Prelude.{◌≡◌, ℕ, ℤ, suc, Bool, false, List, [], ◌∷◌, ◌++◌}
-use Rattle.qm_json.specs.declared.value.Json.{Json}
+use Rattle.qm_json.specs.{declared.value.Json.Json, declared.value.Member.Member, Members.has_name}
 use Rattle.qm_json.specs.declared.value.Json.TheVariants as json
-use Rattle.qm_json.specs.declared.value.Member.{Member}
-use Rattle.qm_json.specs.Members.{has_name}
 use Rattle.qm_read.specs.declared.token.Token.TheVariants as tokens
 use Rattle.qm_read.specs.Tokens.{Placed, at}
 

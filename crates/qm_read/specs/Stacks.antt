@@ -1,12 +1,9 @@
 -- What is open while a value is read, and what may stand next (this project's own rule).
 use Rattle.std.specs.Prelude.{ℕ, Bool, true, false, List, [], ◌∷◌, ◌++◌, Result, Ok, Err}
 use Rattle.qm_json.specs.declared.value.Json.{Json}
-use Rattle.qm_read.specs.declared.fault.JsonFault.{JsonFault}
-use Rattle.qm_read.specs.declared.fault.JsonFault.TheVariants.{Expected}
-use Rattle.qm_read.specs.declared.stack.Expect.{Expect}
+use Rattle.qm_read.specs.declared.{fault.JsonFault.JsonFault, fault.JsonFault.TheVariants.Expected, stack.Expect.Expect}
 use Rattle.qm_read.specs.declared.stack.Expect.TheVariants.{Value, ValueOrEnd, Name, NameOrEnd, CommaOrEnd, End}
-use Rattle.qm_read.specs.declared.stack.Open.{Open}
-use Rattle.qm_read.specs.declared.stack.Open.TheVariants.{Top, Arr, Obj, Whole}
+use Rattle.qm_read.specs.declared.stack.Open.{Open, TheVariants.Top, TheVariants.Arr, TheVariants.Obj, TheVariants.Whole}
 
 -- what was read: what is open, the innermost first, and what may stand next
 pub record State : Type 0 where

@@ -1,17 +1,13 @@
 -- Reading a value token by token. This is how a value or a fault is computed; which one it is,
 -- Spelling and Viable say without it (this project's own rule).
 use Rattle.std.specs.Prelude.{ℕ, ◌+◌, nat_lt, cond, ◌&&◌, List, [], ◌∷◌, length, Result, Ok, Err}
-use Rattle.qm_json.specs.declared.value.Json.{Json}
+use Rattle.qm_json.specs.{declared.value.Json.Json, Members.has_name}
 use Rattle.qm_json.specs.declared.value.Json.TheVariants as json
-use Rattle.qm_json.specs.Members.{has_name}
 use Rattle.qm_frame.specs.declared.step.TheConstants.{MAX_DEPTH}
-use Rattle.qm_read.specs.declared.fault.JsonFault.{JsonFault}
-use Rattle.qm_read.specs.declared.fault.JsonFault.TheVariants.{Expected, Duplicate}
+use Rattle.qm_read.specs.declared.fault.JsonFault.{JsonFault, TheVariants.Expected, TheVariants.Duplicate}
 use Rattle.qm_read.specs.declared.stack.Expect.{Expect}
 use Rattle.qm_read.specs.declared.stack.Expect.TheVariants.{Value, ValueOrEnd, NameOrEnd, Colon, CommaOrEnd}
-use Rattle.qm_read.specs.declared.stack.Open.{Open}
-use Rattle.qm_read.specs.declared.stack.Open.TheVariants.{Arr, Obj}
-use Rattle.qm_read.specs.declared.token.Token.{Token}
+use Rattle.qm_read.specs.declared.{stack.Open.Open, stack.Open.TheVariants.Arr, stack.Open.TheVariants.Obj, token.Token.Token}
 use Rattle.qm_read.specs.declared.token.Token.TheVariants as tokens
 use Rattle.qm_read.specs.Stacks.{State, takes_value, takes_name, ends_array, ends_object, put, left, after_comma}
 

@@ -2,12 +2,8 @@
 -- the escape `\'` are this project's own rule).
 use Rattle.std.specs.Prelude.{ℕ, ◌+◌, ◌==◌, nat_lt, Bool, not, cond, ◌&&◌, ◌||◌, List, [], ◌∷◌, ◌++◌, take, length, Result, Ok, Err, encode_utf8}
 use Rattle.std.specs.Str.{continuation_len, is_utf8}
-use Rattle.qm_read.specs.declared.fault.JsonFault.{JsonFault}
-use Rattle.qm_read.specs.declared.fault.JsonFault.TheVariants.{BadUtf8}
-use Rattle.qm_read.specs.declared.strings.Part.{Part}
-use Rattle.qm_read.specs.declared.strings.Part.TheVariants.{Same, Char}
-use Rattle.qm_read.specs.Escapes.{escape}
-use Rattle.qm_read.specs.Walks.{walk}
+use Rattle.qm_read.specs.declared.{fault.JsonFault.JsonFault, fault.JsonFault.TheVariants.BadUtf8, strings.Part.Part}
+use Rattle.qm_read.specs.{declared.strings.Part.TheVariants.Same, declared.strings.Part.TheVariants.Char, Escapes.escape, Walks.walk}
 
 -- a control character, which stands in no string
 abbrev pub is_control : ℕ → Bool

@@ -5,9 +5,7 @@ use Rattle.qm_frame.specs.declared.step.TheConstants.{MAX_DEPTH}
 use Rattle.qm_json.specs.declared.value.Json.{Json}
 use Rattle.qm_read.specs.declared.fault.JsonFault.{JsonFault}
 use Rattle.qm_read.specs.declared.fault.JsonFault.TheVariants.{Expected, Duplicate, BadEscape, BadUtf8, Memory}
-use Rattle.qm_read.specs.Spelling.{SpellsValue}
-use Rattle.qm_read.specs.Tokens.{tokens_of}
-use Rattle.qm_read.specs.Viable.{FirstFault}
+use Rattle.qm_read.specs.{Spelling.SpellsValue, Tokens.tokens_of, Viable.FirstFault}
 
 -- the tokens of the text spell the value, nested at most so deep
 abbrev pub Spells : List ℕ → Json → Type 0

@@ -1,17 +1,12 @@
 -- The tokens of a text, by longest match (RFC 8259, sections 2, 3, 6 and 7; runs of letters and of
 -- the bytes of numbers are this project's own rule).
 use Rattle.std.specs.Prelude.{ℕ, ◌+◌, ◌==◌, true, false, cond, List, [], ◌∷◌, ◌++◌, take, drop, length, min, codes, ℤ, Option, Some, None, Result, Ok, Err}
-use Rattle.std.specs.List.{prefix_len}
-use Rattle.std.specs.Str.{bytes_eq}
+use Rattle.std.specs.{List.prefix_len, Str.bytes_eq}
 use Rattle.qm_frame.specs.Bytes.{is_space, begins_number, in_number, is_letter, is_quote}
 use Rattle.qm_json.specs.Numbers.{is_literal, whole_of}
-use Rattle.qm_read.specs.declared.fault.JsonFault.{JsonFault}
-use Rattle.qm_read.specs.declared.fault.JsonFault.TheVariants.{Expected}
-use Rattle.qm_read.specs.declared.token.Lexeme.{Lexeme}
-use Rattle.qm_read.specs.declared.token.Token.{Token}
+use Rattle.qm_read.specs.declared.{fault.JsonFault.JsonFault, fault.JsonFault.TheVariants.Expected, token.Lexeme.Lexeme, token.Token.Token}
 use Rattle.qm_read.specs.declared.token.Token.TheVariants as tokens
-use Rattle.qm_read.specs.Strings.{string_length, text_of}
-use Rattle.qm_read.specs.Walks.{walk}
+use Rattle.qm_read.specs.{Strings.string_length, Strings.text_of, Walks.walk}
 
 -- a token, and how many bytes stand before it
 pub record Placed : Type 0 where

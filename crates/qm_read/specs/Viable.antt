@@ -2,12 +2,9 @@
 use Rattle.std.specs.Prelude.{ℕ, List, [], ◌∷◌, ◌++◌}
 use Rattle.qm_json.specs.declared.value.Json.{Json}
 use Rattle.qm_frame.specs.declared.step.TheConstants.{MAX_DEPTH}
-use Rattle.qm_read.specs.declared.fault.JsonFault.{JsonFault}
-use Rattle.qm_read.specs.declared.fault.JsonFault.TheVariants.{Expected, Duplicate}
-use Rattle.qm_read.specs.declared.token.Token.{Token}
+use Rattle.qm_read.specs.declared.fault.JsonFault.{JsonFault, TheVariants.Expected, TheVariants.Duplicate}
+use Rattle.qm_read.specs.{declared.token.Token.Token, Spelling.SpellsValue, Tokens.Placed, Tokens.at}
 use Rattle.qm_read.specs.declared.token.Token.TheVariants as tokens
-use Rattle.qm_read.specs.Spelling.{SpellsValue}
-use Rattle.qm_read.specs.Tokens.{Placed, at}
 
 -- with some tokens after them, the tokens spell some value
 pub record BeginsValue (ts : List Placed) : Type 0 where

@@ -1,17 +1,11 @@
 -- The inputs of bytes: there are none of no bytes, and all are clean.
 use Rattle.std.proofs.Common.{◌≡◌, ◌<◌, ℕ, zero, suc, arith, List, [], ◌∷◌, map, length, get_or, Some, None, Result, Ok, Err, refl, sym, ◌∙◌, subst, inl, inr}
 use Rattle.std.specs.List.{slice_get}
-use Rattle.std.proofs.lemmas.List.{length-map}
-use Rattle.std.proofs.lemmas.Option.{slice_get_cases}
-use Rattle.qm_json.specs.Cleanness.{IsClean}
-use Rattle.qm_json.specs.declared.value.Json.{Json}
-use Rattle.qm_core.specs.Inputs.{IsCleanInput}
-use Rattle.qm_core.specs.declared.inputs.Input.{Input}
-use Rattle.qm_frame.specs.Framing.{frames_of}
-use Rattle.qm_frame.specs.declared.step.FrameFault.{FrameFault}
-use Rattle.qm_read.specs.Faults.{reading_of}
-use Rattle.qm_read.specs.Inputs.{taken_of, read_as}
-use Rattle.qm_read.specs.declared.fault.JsonFault.{JsonFault}
+use Rattle.std.proofs.lemmas.{List.length-map, Option.slice_get_cases}
+use Rattle.qm_json.specs.{Cleanness.IsClean, declared.value.Json.Json}
+use Rattle.qm_core.specs.{Inputs.IsCleanInput, declared.inputs.Input.Input}
+use Rattle.qm_frame.specs.{Framing.frames_of, declared.step.FrameFault.FrameFault}
+use Rattle.qm_read.specs.{Faults.reading_of, Inputs.taken_of, Inputs.read_as, declared.fault.JsonFault.JsonFault}
 use Rattle.qm_read.specs.declared.fault.JsonFault.TheVariants.{Expected, Duplicate, BadEscape, BadUtf8, Memory}
 use Rattle.qm_read.proofs.Results.{value-clean}
 use Rattle.qm_script.specs.Fed.{fed_inputs_of, input_of, text_input_of}

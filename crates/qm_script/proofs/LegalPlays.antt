@@ -1,26 +1,17 @@
 -- The journal that a script plays is legal.
 use Rattle.std.proofs.Common.{◌≡◌, ℕ, ◌+◌, ◌==◌, ◌++◌, Bool, true, false, cond, List, [], ◌∷◌, length, Option, Some, None, IfSome, Result, Ok, Err, IfOk, ◌<◌, ◌^◌, refl}
 use Rattle.std.specs.List.{slice_get}
-use Rattle.qm_core.specs.Legal.{IsLegal, past_of}
-use Rattle.qm_core.specs.Next.{View, refusal_of, entry_of, session_refusal, IsCleanStep}
+use Rattle.qm_core.specs.{Legal.IsLegal, Legal.past_of, Next.View, Next.refusal_of, Next.entry_of, Next.session_refusal, Next.IsCleanStep}
 use Rattle.qm_core.specs.Next as step
 use Rattle.qm_core.specs.Standing.{sessions_of, admitted_of, running_of, named_of}
-use Rattle.qm_core.specs.declared.entries.StepFault.{StepFault}
-use Rattle.qm_core.specs.declared.inputs.Input.{Input}
-use Rattle.qm_core.specs.declared.monitor.Limits.{Limits}
-use Rattle.qm_core.specs.declared.requests.RequestName.{RequestName}
+use Rattle.qm_core.specs.declared.{entries.StepFault.StepFault, inputs.Input.Input, monitor.Limits.Limits, requests.RequestName.RequestName}
 use Rattle.qm_core.proofs.StepLaws.{next_legal}
-use Rattle.qm_script.specs.Fed.{fed_inputs_of}
-use Rattle.qm_script.specs.Playing.{journal_of}
-use Rattle.qm_script.specs.Lines.{lines_of}
+use Rattle.qm_script.specs.{Fed.fed_inputs_of, Playing.journal_of, Lines.lines_of}
 use Rattle.qm_script.specs.Orders.{order_of, fed_by, hex_bytes_of, is_skipped}
 use Rattle.qm_script.specs.Playing.{Played, Ended, stepped, core_step, fed_step, fed_to, input_step, admit_step, finish_step, ordered, line_step, after_line, nothing_played, played_from}
-use Rattle.qm_script.specs.declared.endings.Stop.{Stop}
-use Rattle.qm_script.specs.declared.endings.Stop.TheVariants.{BadLine}
-use Rattle.qm_script.specs.declared.orders.Order.{Order}
+use Rattle.qm_script.specs.declared.{endings.Stop.Stop, endings.Stop.TheVariants.BadLine, orders.Order.Order}
 use Rattle.qm_script.specs.declared.orders.Order.TheVariants as order
-use Rattle.qm_script.proofs.FedLemmas.{fed_clean}
-use Rattle.qm_script.proofs.OrderLemmas.{IsSmall, order-small}
+use Rattle.qm_script.proofs.{FedLemmas.fed_clean, OrderLemmas.IsSmall, OrderLemmas.order-small}
 
 -- what is played next has a legal journal
 abbrev GoesOn : Result Played Stop → Type 0

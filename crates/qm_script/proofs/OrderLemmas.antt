@@ -1,12 +1,9 @@
 -- A moment that a line orders has 64 bits.
 use Rattle.std.proofs.Common.{◌≡◌, ℕ, ◌<◌, ◌^◌, nat_lt, Bool, true, false, cond, ◌&&◌, List, codes, Option, Some, None, IfSome, option_map, position, is_some, refl, arith}
-use Rattle.std.specs.Option.{option_and_then, option_or}
-use Rattle.std.specs.Str.{bytes_eq}
-use Rattle.std.specs.Str.Parse.{digits_value}
+use Rattle.std.specs.{Option.option_and_then, Option.option_or, Str.bytes_eq, Str.Parse.digits_value}
 use Rattle.std.proofs.lemmas.Bool.Decides.{nat_tests}
 use Rattle.qm_base.specs.Numerals.{is_numeral, number_of}
-use Rattle.qm_core.specs.Texts.{cause_of}
-use Rattle.qm_core.specs.declared.entries.Cause.{Cause}
+use Rattle.qm_core.specs.{Texts.cause_of, declared.entries.Cause.Cause}
 use Rattle.qm_script.specs.Orders.{after_blank, after_word, before_blank, drop_order, feed_order, is_blank, is_hex, long_order_of, order_of, session_after, session_number, text_order}
 use Rattle.qm_script.specs.declared.orders.Order.{Order}
 use Rattle.qm_script.specs.declared.orders.Order.TheVariants.{Open, Text, Feed, Admit, Start, Finish, Take, Eof, Drop}

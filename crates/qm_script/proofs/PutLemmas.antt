@@ -1,8 +1,7 @@
 -- Two pieces put one after the other.
 use Rattle.std.proofs.Common.{◌≡◌, ℕ, List, ◌++◌, Option, Result, Ok, Err, ap, ◌∙◌}
 use Rattle.qm_base.specs.Faults.{told_more, Puts}
-use Rattle.qm_base.proofs.Prefixes.{append_prefix}
-use Rattle.qm_base.proofs.Telling.{told_more-twice}
+use Rattle.qm_base.proofs.{Prefixes.append_prefix, Telling.told_more-twice}
 
 pub puts_after : {T E : Type 0} (held between now : Option (List ℕ)) (a b : List ℕ) (result : Result T E) →
     between ≡ told_more held a → Puts between b result now → Puts held (a ++ b) result now

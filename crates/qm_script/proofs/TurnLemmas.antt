@@ -1,13 +1,9 @@
 -- A line of a script, and those that follow it.
 use Rattle.std.proofs.Common.{◌≡◌, ℕ, ◌+◌, ◌-◌, ◌^◌, min, List, ◌∷◌, Some, None, Result, Ok, Err, refl, ap, sym, ◌∙◌, subst}
 use Rattle.qm_core.specs.declared.monitor.Limits.{Limits}
-use Rattle.qm_script.specs.Kept.{Turns}
-use Rattle.qm_script.specs.Lines.{lines_of}
-use Rattle.qm_script.specs.Players.{Playing}
-use Rattle.qm_script.specs.Playing.{Played, Ended, after_line, line_step, played_from}
-use Rattle.qm_script.specs.Kept.{Finishes}
-use Rattle.qm_script.specs.declared.endings.Stop.{Stop}
-use Rattle.qm_script.specs.declared.player.Turn.{Turn}
+use Rattle.qm_script.specs.{Kept.Turns, Lines.lines_of, Players.Playing}
+use Rattle.qm_script.specs.{Playing.Played, Playing.Ended, Playing.after_line, Playing.line_step, Playing.played_from, Kept.Finishes}
+use Rattle.qm_script.specs.declared.{endings.Stop.Stop, player.Turn.Turn}
 
 refused : (n : ℕ) (old : Playing) (step : Result Played Stop) (go : Played → Ended) (turn : Turn) (stop : Stop) →
     Turns old step turn → turn.stop ≡ Some stop →

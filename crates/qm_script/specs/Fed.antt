@@ -1,18 +1,14 @@
 -- The inputs of the bytes that were fed to a session (this project's own rule).
 use Rattle.std.specs.Prelude.{ℕ, List, map}
-use Rattle.qm_core.specs.declared.inputs.FrameWord.{FrameWord}
+use Rattle.qm_core.specs.declared.inputs.{FrameWord.FrameWord, Input.Input, Input.TheVariants.Doc, Input.TheVariants.Bad}
 use Rattle.qm_core.specs.declared.inputs.FrameWord.TheVariants as word
 use Rattle.qm_core.specs.declared.inputs.BadInput.TheVariants as bad
-use Rattle.qm_core.specs.declared.inputs.Input.{Input}
-use Rattle.qm_core.specs.declared.inputs.Input.TheVariants.{Doc, Bad}
 use Rattle.qm_core.specs.declared.inputs.JsonWord.TheVariants as place
 use Rattle.qm_frame.specs.declared.step.FrameFault.{FrameFault}
 use Rattle.qm_frame.specs.declared.step.FrameFault.TheVariants.{LexError, Unbalanced, TooDeep, TooLong}
-use Rattle.qm_read.specs.Inputs.{inputs_of}
-use Rattle.qm_read.specs.declared.fault.JsonFault.{JsonFault}
+use Rattle.qm_read.specs.{Inputs.inputs_of, declared.fault.JsonFault.JsonFault}
 use Rattle.qm_read.specs.declared.fault.JsonFault.TheVariants.{Expected, Duplicate, BadEscape, BadUtf8, Memory}
-use Rattle.qm_read.specs.declared.taken.Taken.{Taken}
-use Rattle.qm_read.specs.declared.taken.Taken.TheVariants.{Value, BadFrame, BadText}
+use Rattle.qm_read.specs.declared.taken.Taken.{Taken, TheVariants.Value, TheVariants.BadFrame, TheVariants.BadText}
 
 abbrev pub frame_word_of : FrameFault → FrameWord
 frame_word_of LexError = word.LexError

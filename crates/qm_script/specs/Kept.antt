@@ -2,14 +2,9 @@
 -- (this project's own rule).
 use Rattle.std.specs.Prelude.{◌≡◌, cond, [], ◌∷◌, is_some, Some, None, Result, Ok, Err}
 use Rattle.std.specs.Option.{option_to_list}
-use Rattle.qm_core.specs.Legal.{past_of}
-use Rattle.qm_core.specs.Standing.{sessions_of}
-use Rattle.qm_script.specs.Players.{Playing}
-use Rattle.qm_script.specs.Playing.{Played, Ended}
-use Rattle.qm_script.specs.declared.endings.Stop.{Stop}
-use Rattle.qm_script.specs.declared.player.Player.TheInside.{Inside as Fields}
-use Rattle.qm_script.specs.declared.player.Turn.{Turn}
-use Rattle.qm_script.specs.declared.replays.Finished.{Finished}
+use Rattle.qm_core.specs.{Legal.past_of, Standing.sessions_of}
+use Rattle.qm_script.specs.{Players.Playing, Playing.Played, Playing.Ended, declared.endings.Stop.Stop}
+use Rattle.qm_script.specs.declared.{player.Player.TheInside.Inside as Fields, player.Turn.Turn, replays.Finished.Finished}
 
 abbrev pub shown : Fields → Playing
 shown p = record { limits = p.monitor.limits; played = record { journal = p.monitor.journal; fed = option_to_list p.feeder } }

@@ -1,8 +1,7 @@
 -- What a player of a script shows (this project's own rule).
 use Rattle.std.specs.Prelude.{ℕ, List, refl}
 use Rattle.std.specs.Coded.{Coded, code_by, coded×, coded_list, coded_ℕ}
-use Rattle.qm_core.specs.declared.entries.Entry.{Entry}
-use Rattle.qm_core.specs.declared.monitor.Limits.{Limits}
+use Rattle.qm_core.specs.declared.{entries.Entry.Entry, monitor.Limits.Limits}
 use Rattle.qm_script.specs.Playing.{Played}
 
 -- the limits of its journal, and what it played

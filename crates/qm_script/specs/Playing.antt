@@ -1,25 +1,15 @@
 -- What a script plays (this project's own rule).
 use Rattle.std.specs.Prelude.{ℕ, ◌+◌, ◌-◌, ◌^◌, ◌==◌, min, cond, List, [], ◌∷◌, ◌++◌, length, slice_get, unwrap_or, Option, Some, None, Result, Ok, Err}
 use Rattle.std.proofs.Math.ListN.{set}
-use Rattle.qm_core.specs.Legal.{past_of}
-use Rattle.qm_core.specs.Next.{refusal_of, entry_of, session_refusal}
+use Rattle.qm_core.specs.{Legal.past_of, Next.refusal_of, Next.entry_of, Next.session_refusal}
 use Rattle.qm_core.specs.Next as step
-use Rattle.qm_core.specs.Standing.{sessions_of, admitted_of, running_of, named_of}
-use Rattle.qm_core.specs.Texts.{text_of}
-use Rattle.qm_core.specs.declared.entries.Entry.{Entry}
-use Rattle.qm_core.specs.declared.entries.StepFault.{StepFault}
-use Rattle.qm_core.specs.declared.inputs.Input.{Input}
-use Rattle.qm_core.specs.declared.monitor.Limits.{Limits}
+use Rattle.qm_core.specs.{Standing.sessions_of, Standing.admitted_of, Standing.running_of, Standing.named_of, Texts.text_of}
+use Rattle.qm_core.specs.declared.{entries.Entry.Entry, entries.StepFault.StepFault, inputs.Input.Input, monitor.Limits.Limits}
 use Rattle.qm_core.specs.declared.requests.RequestName.{RequestName}
-use Rattle.qm_script.specs.Endings.{stop_of, closing_of}
-use Rattle.qm_script.specs.Fed.{fed_inputs_of}
-use Rattle.qm_script.specs.Lines.{lines_of}
-use Rattle.qm_script.specs.Orders.{order_of, fed_by, hex_bytes_of, is_skipped}
-use Rattle.qm_script.specs.declared.endings.Refused.{Refused}
+use Rattle.qm_script.specs.{Endings.stop_of, Endings.closing_of, Fed.fed_inputs_of, Lines.lines_of}
+use Rattle.qm_script.specs.{Orders.order_of, Orders.fed_by, Orders.hex_bytes_of, Orders.is_skipped, declared.endings.Refused.Refused}
 use Rattle.qm_script.specs.declared.endings.StepWord.TheVariants as word
-use Rattle.qm_script.specs.declared.endings.Stop.{Stop}
-use Rattle.qm_script.specs.declared.endings.Stop.TheVariants.{BadLine, Step}
-use Rattle.qm_script.specs.declared.orders.Order.{Order}
+use Rattle.qm_script.specs.declared.{endings.Stop.Stop, endings.Stop.TheVariants.BadLine, endings.Stop.TheVariants.Step, orders.Order.Order}
 use Rattle.qm_script.specs.declared.orders.Order.TheVariants as order
 
 -- what was played: the journal, and the bytes that were fed to each session, the first first

@@ -1,9 +1,7 @@
 -- What a play puts into its sink (this project's own rule).
 use Rattle.std.specs.Prelude.{◌≡◌, ◌≢◌, ℕ, List, Option}
 use Rattle.qm_base.specs.Faults.{Rose, told_more, HoldsPart}
-use Rattle.qm_script.specs.Endings.{end_of}
-use Rattle.qm_script.specs.Playing.{Ended, transcript_text_of}
-use Rattle.qm_script.specs.declared.endings.PlayEnd.{PlayEnd}
+use Rattle.qm_script.specs.{Endings.end_of, Playing.Ended, Playing.transcript_text_of, declared.endings.PlayEnd.PlayEnd}
 use Rattle.qm_script.specs.declared.endings.PlayEnd.TheVariants.{SinkFault, Memory}
 
 -- a sink before and after a call: what it holds where it tells, and its count of faults

@@ -1,8 +1,7 @@
 -- Deadlines among others.
 use Rattle.std.proofs.Common.{◌≡◌, ℕ, zero, suc, Bool, true, false, ◌||◌, List, [], ◌∷◌, take, refl}
 use Rattle.std.specs.BTreeMap.{is_at}
-use Rattle.qm_throttle.specs.Deadlines.{due_order, is_listed}
-use Rattle.qm_throttle.specs.declared.due.Due.{Due}
+use Rattle.qm_throttle.specs.{Deadlines.due_order, Deadlines.is_listed, declared.due.Due.Due}
 
 -- what is not among all is not among the first
 pub not_listed_before : (dues : List Due) (i : ℕ) (q : Due) → is_listed dues q ≡ false → is_listed (take i dues) q ≡ false

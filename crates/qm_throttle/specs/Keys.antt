@@ -1,13 +1,9 @@
 -- The keys of events, and their order (this project's own rule).
 use Rattle.std.specs.Prelude.{ℕ, Bool, cond, List, [], ◌∷◌, map, codes, slice_get, Option, Some, None}
-use Rattle.std.specs.Cmp.{IsTotalOrder, then_total}
-use Rattle.std.specs.Cmp.Lexicographic.{slice_cmp, on_texts}
-use Rattle.std.specs.Ordering.{nat_cmp, ordering_then, match_ordering, is_eq}
-use Rattle.std.specs.Str.{bytes_eq}
+use Rattle.std.specs.Cmp.{IsTotalOrder, then_total, Lexicographic.slice_cmp, Lexicographic.on_texts}
+use Rattle.std.specs.{Ordering.nat_cmp, Ordering.ordering_then, Ordering.match_ordering, Ordering.is_eq, Str.bytes_eq}
 use Rattle.std.specs.declared.cmp.Ordering.{Ordering}
-use Rattle.qm_json.specs.Members.{member_of}
-use Rattle.qm_json.specs.Printing.{printed, array_text}
-use Rattle.qm_json.specs.declared.value.Json.{Json}
+use Rattle.qm_json.specs.{Members.member_of, Printing.printed, Printing.array_text, declared.value.Json.Json}
 use Rattle.qm_plan.specs.declared.events.Period.{Period}
 use Rattle.qm_throttle.specs.declared.keys.Key.{Key}
 

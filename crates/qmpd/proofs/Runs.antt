@@ -1,16 +1,13 @@
 -- The answer of a run from that of its part.
 use Rattle.std.proofs.Common.{◌≡◌, ◌≢◌, ℕ, ◌==◌, Bool, true, false, cond, List, [], ◌∷◌, ◌⊎◌, Option, Some, None, option_map, unwrap_or, refl, ap, sym, ◌∙◌, subst, append-nil, inl, inr}
-use Rattle.std.specs.Option.{option_and_then}
-use Rattle.std.specs.Str.{bytes_eq}
+use Rattle.std.specs.{Option.option_and_then, Str.bytes_eq}
 use Rattle.std.proofs.lemmas.Slice.Eq.{bytes_eq-Decides}
 use Rattle.qm_base.specs.Faults.{Rose, told_more, HoldsPart}
 use Rattle.qm_base.proofs.Prefixes.{empty_prefix}
 use Rattle.qapi_load.specs.Files.{NamedText, text_of}
 use Rattle.qm_core.specs.Legal.{IsLegal, past_of}
 use Rattle.qm_core.proofs.Transcripts.{taken_first}
-use Rattle.qm_script.specs.Endings.{end_of, stop_end_of}
-use Rattle.qm_script.specs.declared.endings.Refused.{Refused}
-use Rattle.qm_script.specs.declared.endings.Stop.{Stop}
+use Rattle.qm_script.specs.{Endings.end_of, Endings.stop_end_of, declared.endings.Refused.Refused, declared.endings.Stop.Stop}
 use Rattle.qm_script.specs.declared.endings.Stop.TheVariants.{BadLine, Step, SessionsFull, JournalFull}
 use Rattle.qm_script.proofs.LegalPlays.{script_legal}
 use Rattle.qmpd.specs.Answers.{Ran, Ends, Gives, Answers, IsNamed, PutsUnread}

@@ -2,12 +2,8 @@
 use Rattle.std.specs.Prelude.{ℕ, List, [], ◌++◌, codes, Option, Some, None, option_map, unwrap_or}
 use Rattle.std.specs.Option.{option_and_then}
 use Rattle.qapi_load.specs.Files.{NamedText, text_of}
-use Rattle.qm_core.specs.declared.TheConstants.{MOST_TEXT}
-use Rattle.qm_core.specs.declared.entries.Entry.{Entry}
-use Rattle.qm_core.specs.declared.monitor.Limits.{Limits}
-use Rattle.qm_script.specs.Playing.{Ended, played_of, transcript_text_of}
-use Rattle.qm_script.specs.Endings.{end_of}
-use Rattle.qm_script.specs.declared.endings.PlayEnd.{PlayEnd}
+use Rattle.qm_core.specs.declared.{TheConstants.MOST_TEXT, entries.Entry.Entry, monitor.Limits.Limits}
+use Rattle.qm_script.specs.{Playing.Ended, Playing.played_of, Playing.transcript_text_of, Endings.end_of, declared.endings.PlayEnd.PlayEnd}
 use Rattle.qm_script.specs.declared.endings.PlayEnd.TheVariants as end
 use Rattle.qmpd.specs.Words.{Replay, replay_of}
 

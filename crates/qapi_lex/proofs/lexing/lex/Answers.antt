@@ -1,7 +1,6 @@
 use Rattle.std.proofs.Common.{◌≡◌, ◌-◌, ◌<◌, ◌∙◌, ap, arith, length, List}
 use Rattle.std.proofs.lemmas.List.{length-drop}
-use Rattle.qapi_lex.specs.declared.token.Token.{Token}
-use Rattle.qapi_lex.specs.Tokens.{followed_by, tokens_after, tokens_of}
+use Rattle.qapi_lex.specs.{declared.token.Token.Token, Tokens.followed_by, Tokens.tokens_after, Tokens.tokens_of}
 use Rattle.qapi_lex.proofs.PieceLaws.{next_piece, followed_by-nothing}
 use Rattle.qapi_lex.proofs.lexing.lex.Goals as goal
 

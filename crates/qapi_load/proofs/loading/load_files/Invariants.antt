@@ -1,8 +1,5 @@
 use Rattle.std.proofs.Common.{◌≡◌, ◌+◌, ◌-◌, ◌*◌, List, Some, length}
-use Rattle.qapi_load.specs.Files.{NamedText}
-use Rattle.qapi_load.specs.Loading.{sources_of}
-use Rattle.qapi_load.specs.Steps.{Sound, outcome_of}
-use Rattle.qapi_load.specs.declared.fault.TheConstants.{MOST_FILES}
+use Rattle.qapi_load.specs.{Files.NamedText, Loading.sources_of, Steps.Sound, Steps.outcome_of, declared.fault.TheConstants.MOST_FILES}
 use Rattle.qapi_load.proofs.loading.load_files.Given as goal
 
 abbrev pub invariant-loop-next : goal.invariant-loop-next

@@ -1,8 +1,6 @@
 use Rattle.std.proofs.Common.{◌≡◌, drop}
 use Rattle.std.specs.List.{filter}
-use Rattle.qapi_tree.specs.Judging.{form_of}
-use Rattle.qapi_tree.specs.Spelling.{has_key}
-use Rattle.qapi_tree.specs.Table.{name}
+use Rattle.qapi_tree.specs.{Judging.form_of, Spelling.has_key, Table.name}
 use Rattle.qapi_tree.proofs.FormLaws.{settled}
 use Rattle.qapi_tree.proofs.judging.form_of.Given as goal
 

@@ -1,7 +1,6 @@
 use Rattle.std.proofs.Common.{sym, subst, Bool, IfOk}
 use Rattle.qapi_tree.specs.Asking.{Asks, are_shaped}
-use Rattle.qapi_tree.proofs.CountLaws.{fewer, listed, membered}
-use Rattle.qapi_tree.proofs.ShapeLaws.{shaped_list, shaped_dict}
+use Rattle.qapi_tree.proofs.{CountLaws.fewer, CountLaws.listed, CountLaws.membered, ShapeLaws.shaped_list, ShapeLaws.shaped_dict}
 use Rattle.qapi_tree.proofs.shapes.ask_inside.Goals as goal
 
 pub returns-in-List-clause-shapes : goal.returns-in-List-clause-shapes

@@ -1,7 +1,6 @@
 use Rattle.std.proofs.Common.{arith}
 use Rattle.qapi_tree.specs.Asking.{count_of}
-use Rattle.qapi_tree.proofs.CountLaws.{count_next}
-use Rattle.qapi_tree.proofs.ShapeLaws.{asked_next}
+use Rattle.qapi_tree.proofs.{CountLaws.count_next, ShapeLaws.asked_next}
 use Rattle.qapi_tree.proofs.shapes.ask_members.Goals as goal
 
 pub loop-member-preserved : goal.loop-member-preserved

@@ -1,6 +1,5 @@
 use Rattle.std.proofs.Common.{◌≡◌}
-use Rattle.qapi_tree.specs.Asking.{are_shaped, left_in}
-use Rattle.qapi_tree.specs.Shapes.{has_shape}
+use Rattle.qapi_tree.specs.{Asking.are_shaped, Asking.left_in, Shapes.has_shape}
 use Rattle.qapi_tree.proofs.shapes.is_of_shape.Given as goal
 
 -- what is asked is whether the value has the shape

@@ -1,9 +1,6 @@
 use Rattle.std.proofs.Common.{◌≡◌, ◌<◌, ◌≤◌, ◌+◌, ◌*◌, ◌^◌, nat_lt, false, arith, take, length, refl, get_or}
-use Rattle.std.proofs.lemmas.Bool.Decides.{nat_tests}
-use Rattle.std.proofs.lemmas.Int.Digits.{digits_value_more}
-use Rattle.std.proofs.lemmas.Str.Parse.{digits_value-take-le}
-use Rattle.std.specs.Char.{digit_value}
-use Rattle.std.specs.Str.Parse.{digits_value}
+use Rattle.std.proofs.lemmas.{Bool.Decides.nat_tests, Int.Digits.digits_value_more, Str.Parse.digits_value-take-le}
+use Rattle.std.specs.{Char.digit_value, Str.Parse.digits_value}
 use Rattle.qm_base.proofs.numerals.value.Goals as goal
 
 pub returns-in-None : goal.returns-in-None

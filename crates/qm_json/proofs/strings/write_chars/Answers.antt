@@ -1,7 +1,6 @@
 use Rattle.std.proofs.lemmas.Str.{IsUtf8-past_char}
 use Rattle.qm_json.specs.Strings.{escaped}
-use Rattle.qm_json.proofs.Chunks.{char_left, no_chars}
-use Rattle.qm_json.proofs.Texts.{remains_less, remains_none}
+use Rattle.qm_json.proofs.{Chunks.char_left, Chunks.no_chars, Texts.remains_less, Texts.remains_none}
 use Rattle.qm_json.proofs.strings.write_chars.Goals as goal
 
 pub loop-c-preserved : goal.loop-c-preserved

@@ -1,7 +1,6 @@
 use Rattle.std.proofs.Common.{not, ap}
 use Rattle.qm_json.specs.Strings.{chunk_escapes}
-use Rattle.qm_json.proofs.Chunks.{chunk_of, chunk_left, no_points}
-use Rattle.qm_json.proofs.Texts.{remains_less, remains_none}
+use Rattle.qm_json.proofs.{Chunks.chunk_of, Chunks.chunk_left, Chunks.no_points, Texts.remains_less, Texts.remains_none}
 use Rattle.qm_json.proofs.strings.write_chunks.Goals as goal
 
 pub loop-chunk-preserved : goal.loop-chunk-preserved

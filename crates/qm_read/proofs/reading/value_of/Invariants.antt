@@ -1,6 +1,5 @@
 use Rattle.std.proofs.Common.{◌-◌, length}
-use Rattle.qm_read.specs.Faults.{reading_of}
-use Rattle.qm_read.specs.Progress.{reading_from}
+use Rattle.qm_read.specs.{Faults.reading_of, Progress.reading_from}
 use Rattle.qm_read.proofs.Advancing.{IsLeft}
 use Rattle.qm_read.proofs.reading.value_of.Given as goal
 

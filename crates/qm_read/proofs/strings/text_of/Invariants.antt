@@ -1,6 +1,5 @@
 use Rattle.std.proofs.Common.{◌+◌, ◌-◌, length}
-use Rattle.qm_read.specs.Progress.{decoded_from}
-use Rattle.qm_read.specs.Strings.{text_of}
+use Rattle.qm_read.specs.{Progress.decoded_from, Strings.text_of}
 use Rattle.qm_read.proofs.Advancing.{IsLeft}
 use Rattle.qm_read.proofs.strings.text_of.Given as goal
 

@@ -1,6 +1,5 @@
 use Rattle.std.proofs.Common.{◌≡◌, ◌+◌, ◌≤◌, length}
-use Rattle.qm_script.specs.Lines.{lines_of}
-use Rattle.qm_script.specs.Playing.{played_from}
+use Rattle.qm_script.specs.{Lines.lines_of, Playing.played_from}
 use Rattle.qm_script.proofs.replays.run.Given as goal
 
 abbrev pub decreases-loop-rest : goal.decreases-loop-rest

@@ -1,7 +1,6 @@
 use Rattle.std.proofs.Common.{◌≡◌}
 use Rattle.std.specs.Vec.Iter.{into_iter_len}
-use Rattle.qapi_load.specs.Loading.{after_expressions}
-use Rattle.qapi_load.specs.Steps.{Read, SameFiles, left_in}
+use Rattle.qapi_load.specs.{Loading.after_expressions, Steps.Read, Steps.SameFiles, Steps.left_in}
 use Rattle.qapi_load.proofs.open_file.OpenFile.read_on.Given as goal
 
 abbrev pub invariant-loop-expr : goal.invariant-loop-expr

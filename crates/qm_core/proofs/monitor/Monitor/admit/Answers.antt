@@ -1,6 +1,5 @@
 use Rattle.std.proofs.Common.{◌≡◌, Some, sym, ◌∙◌}
-use Rattle.qm_core.specs.Legal.{past_of}
-use Rattle.qm_core.specs.Standing.{admitted_of}
+use Rattle.qm_core.specs.{Legal.past_of, Standing.admitted_of}
 use Rattle.qm_core.proofs.KeptMonitors.{sound-admit}
 use Rattle.qm_core.proofs.monitor.Monitor.admit.Goals as goal
 

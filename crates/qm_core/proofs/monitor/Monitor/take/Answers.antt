@@ -1,9 +1,6 @@
 use Rattle.std.proofs.Common.{◌≡◌, ◌∙◌, rules}
-use Rattle.qm_core.specs.Legal.{past_of}
-use Rattle.qm_core.specs.Transcript.{untaken_of}
-use Rattle.qm_core.specs.declared.entries.Entry.TheVariants.{Take}
-use Rattle.qm_core.proofs.KeptMonitors.{after_entry}
-use Rattle.qm_core.proofs.KeptSessions.{kept-take}
+use Rattle.qm_core.specs.{Legal.past_of, Transcript.untaken_of, declared.entries.Entry.TheVariants.Take}
+use Rattle.qm_core.proofs.{KeptMonitors.after_entry, KeptSessions.kept-take}
 use Rattle.qm_core.proofs.monitor.Monitor.take.Goals as goal
 
 pub invariant_of-self : goal.invariant_of-self

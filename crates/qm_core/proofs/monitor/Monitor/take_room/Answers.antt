@@ -1,7 +1,5 @@
 use Rattle.std.proofs.Common.{◌≡◌}
-use Rattle.qm_core.specs.Legal.{past_of}
-use Rattle.qm_core.specs.Transcript.{untaken_of}
-use Rattle.qm_core.specs.declared.entries.Entry.TheVariants.{Take}
+use Rattle.qm_core.specs.{Legal.past_of, Transcript.untaken_of, declared.entries.Entry.TheVariants.Take}
 use Rattle.qm_core.proofs.Rooms.{placed}
 use Rattle.qm_core.proofs.monitor.Monitor.take_room.Goals as goal
 

@@ -1,6 +1,5 @@
 use Rattle.std.proofs.Common.{List, ap, sym, ◌∙◌}
-use Rattle.qm_json.specs.declared.value.Json.{Json}
-use Rattle.qm_json.specs.declared.value.Json.TheVariants.{Arr}
+use Rattle.qm_json.specs.declared.value.Json.{Json, TheVariants.Arr}
 use Rattle.qm_jobs.proofs.Tables.{table-infos}
 use Rattle.qm_jobs.proofs.jobs.Jobs.list.Goals as goal
 

@@ -1,6 +1,5 @@
 use Rattle.std.proofs.Common.{◌≡◌, ◌∙◌, ap, false, true, rules}
-use Rattle.qm_jobs.specs.Jobs.{table_of}
-use Rattle.qm_jobs.specs.States.{stands}
+use Rattle.qm_jobs.specs.{Jobs.table_of, States.stands}
 use Rattle.qm_jobs.proofs.Tables.{table-remove, table-set}
 use Rattle.qm_jobs.proofs.jobs.Jobs.put.Goals as goal
 

@@ -1,6 +1,5 @@
 use Rattle.std.proofs.Common.{◌≡◌, ◌∙◌, ap, Option, List}
-use Rattle.qm_queue.specs.Trees.{item_at}
-use Rattle.qm_queue.specs.declared.turns.TurnItem.{TurnItem}
+use Rattle.qm_queue.specs.{Trees.item_at, declared.turns.TurnItem.TurnItem}
 use Rattle.qm_queue.proofs.Settling.{root-is, root-opened}
 use Rattle.qm_queue.proofs.turn_queue.TurnQueue.first.Goals as goal
 
