@@ -7,7 +7,7 @@ use Rattle.qapi_lex.specs.declared.fault.LexFault.TheVariants as lexing
 use Rattle.qapi_tree.specs.declared.{fault.TreeFault.TreeFault, tree.Expr.Expr, tree.Tree.Tree, tree.Tree.TheOpen.Tree-F}
 use Rattle.qapi_tree.specs.declared.tree.Tree.TheOpen as layer
 use Rattle.qapi_tree.specs.{declared.tree.Tree.TheFolds.fold-Tree, declared.tree.TreeMember.TreeMember, Judging.expressions_of}
-use Rattle.qapi_tree.specs.Keys.{has_key}
+use Rattle.qapi_tree.specs.Spelling.{has_key}
 use Rattle.qm_base.specs.Names.{is_named}
 use Rattle.qapi_load.specs.{Files.NamedText, Files.text_of, declared.fault.LoadFault.LoadFault, declared.fault.LoadRule.LoadRule}
 use Rattle.qapi_load.specs.declared.fault.LoadRule.TheVariants as rule
@@ -121,7 +121,7 @@ after_expressions read file r (e ∷ es) =
 
 -- the reading after a file that is included at a place, and all that it includes, where files nest at most so deep
 unfoldable pub after_file : ℕ → List NamedText → Reading → Place → List ℕ → Result Reading LoadFault
-after_file zero told r place name = Ok r
+after_file zero told r place name = Err (include_fault rule.TooManyFiles place name)
 after_file (suc n) told r place name =
     on (parsed place name (text_of name told)) (λ exprs.
     on (after_expressions (after_file n told) name (begin r name) exprs) (λ next. Ok (finish next name)))

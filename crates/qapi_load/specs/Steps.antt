@@ -1,15 +1,14 @@
 -- How the files of a schema are read one after another. This serves private functions.
-use Rattle.std.specs.Prelude.{◌≡◌, ◌≢◌, ◌<◌, ◌≤◌, ◌+◌, ◌-◌, ℕ, List, [], ◌∷◌, length, Option, Some, None, Result, Ok, Err}
+use Rattle.std.specs.Prelude.{◌≡◌, ◌<◌, ◌≤◌, ◌+◌, ◌-◌, ℕ, List, [], ◌∷◌, length, Option, Some, None, Result, Ok, Err}
 use Rattle.std.specs.Vec.Iter.{into_iter_items}
 use Rattle.qapi_tree.specs.declared.tree.Expr.{Expr}
-use Rattle.qm_base.specs.Faults.{Rose}
 use Rattle.qapi_load.specs.{Files.NamedText, declared.fault.LoadFault.LoadFault, declared.fault.TheConstants.MOST_FILES}
-use Rattle.qapi_load.specs.declared.{fault.LoadRule.TheVariants.ReadFault, loading.Loading.Loading, loading.Move.Move}
+use Rattle.qapi_load.specs.declared.{loading.Loading.Loading, loading.Move.Move}
 use Rattle.qapi_load.specs.declared.loading.{Move.TheVariants.Done, Move.TheVariants.On, Move.TheVariants.Ask, Progress.Progress}
 use Rattle.qapi_load.specs.declared.loading.Progress.TheVariants as goes
 use Rattle.qapi_load.specs.declared.open_file.{OpenFile.OpenFile, Turn.Turn, Turn.TheVariants.Over, Turn.TheVariants.Stop, Wanted.Wanted}
 use Rattle.qapi_load.specs.declared.{reading.Place.Place, reading.Reading.Reading, source.Source.Source}
-use Rattle.qapi_load.specs.Loading.{on, after_expressions, after_file, finish, memory_fault, read_fault}
+use Rattle.qapi_load.specs.Loading.{on, after_expressions, after_file, finish}
 
 -- how a file that is wanted is read
 abbrev pub Read : Type 0
@@ -97,22 +96,7 @@ abbrev pub GoesFurther : ℕ → Progress → Type 0
 GoesFurther before (goes.On l) = Sound l × (before < length l.reading.begun + length l.reading.finished)
 GoesFurther before (goes.Done sources) = Unit {0}
 
--- an answer that no want of memory and no failed read took the place of
-abbrev pub IsAnswer : {A : Type 0} → Result A LoadFault → Type 0
-IsAnswer (Ok x) = Unit {0}
-IsAnswer (Err fault) = (fault ≢ memory_fault) × (fault.rule ≢ ReadFault)
-
 -- a file's name and its expressions, or the fault
 abbrev pub Fetches : Result (List ℕ × List Expr) LoadFault → List ℕ → Result (List Expr) LoadFault → Type 0
 Fetches (Ok found) name right = (found.0 ≡ name) × (right ≡ Ok found.1)
 Fetches (Err fault) name right = right ≡ Err fault
-
--- reading fails exactly where the count of faults rises, and the fault names what could not be read
-pub record IsCaused (fault : LoadFault) (before now : ℕ) (failed : List ℕ) : Type 0 where
-  pub rose : fault.rule ≡ ReadFault → Rose before now
-  pub named : fault.rule ≡ ReadFault → fault ≡ read_fault failed
-  pub kept : fault.rule ≢ ReadFault → now ≡ before
-
-abbrev pub HasCause : {A : Type 0} → Result A LoadFault → ℕ → ℕ → List ℕ → Type 0
-HasCause (Ok x) before now failed = now ≡ before
-HasCause (Err fault) before now failed = IsCaused fault before now failed

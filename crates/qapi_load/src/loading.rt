@@ -1,7 +1,8 @@
 ghost use Rattle.std.specs.Prelude.{◌≡◌, ◌≢◌, ◌<◌, ◌≤◌, ◌+◌, length, [], ◌∷◌, ◌++◌, List, Some, IfOk, OnOk, IfErr, Err};
+ghost use Rattle.qapi_load.specs.Causes.{HasCause, IsAnswer};
 ghost use Rattle.qapi_load.specs.Files.{NamedText, text_of};
 ghost use Rattle.qapi_load.specs.Loading.{memory_fault, parsed, sources_of};
-ghost use Rattle.qapi_load.specs.Steps.{Fetches, HasCause, IsAnswer, IsFurther, Sound, left_in, GoesFurther, outcome_after, outcome_moved, outcome_of, outcome_on, outcome_with};
+ghost use Rattle.qapi_load.specs.Steps.{Fetches, IsFurther, Sound, left_in, GoesFurther, outcome_after, outcome_moved, outcome_of, outcome_on, outcome_with};
 
 use crate::fault::{LoadFault, LoadRule, MOST_FILES, owned, refused, unread};
 use crate::library::{Library, LibraryFault};
@@ -107,7 +108,9 @@ fn fetched<L: Library>(
     ensures told { (told : List NamedText) → L.files library.old ≡ Some told → IsAnswer result →
         Fetches result wanted.name (parsed wanted.place wanted.name (text_of wanted.name told)) }
     ensures same { L.files library.new ≡ L.files library.old }
-    ensures cause { HasCause result (L.faults library.old) (L.faults library.new) (L.failed_name library.new) }
+    ensures cause { HasCause result
+        (record { count = L.faults library.old; name = L.failed_name library.old })
+        (record { count = L.faults library.new; name = L.failed_name library.new }) }
 {
     let Wanted { place, name } = wanted;
     let file = owned(alloc, name.copy(alloc))?;
@@ -146,7 +149,9 @@ impl Loading {
         ensures further { IfOk result (λ next.
             length self.reading.begun + length self.reading.finished < length next.reading.begun + length next.reading.finished) }
         ensures same { L.files library.new ≡ L.files library.old }
-        ensures cause { HasCause result (L.faults library.old) (L.faults library.new) (L.failed_name library.new) }
+        ensures cause { HasCause result
+            (record { count = L.faults library.old; name = L.failed_name library.old })
+            (record { count = L.faults library.new; name = L.failed_name library.new }) }
     {
         let Loading {
             mut reading,
@@ -187,7 +192,9 @@ impl Loading {
             outcome_of told self ≡ outcome_after told result }
         ensures further { IfOk result (GoesFurther (length self.reading.begun + length self.reading.finished)) }
         ensures same { L.files library.new ≡ L.files library.old }
-        ensures cause { HasCause result (L.faults library.old) (L.faults library.new) (L.failed_name library.new) }
+        ensures cause { HasCause result
+            (record { count = L.faults library.old; name = L.failed_name library.old })
+            (record { count = L.faults library.new; name = L.failed_name library.new }) }
     {
         match self.advance(alloc) {
             Ok(Move::Done(sources)) => Ok(Progress::Done(sources)),
@@ -206,7 +213,9 @@ impl Loading {
             sources_of told main.now ≡ outcome_on told result }
         ensures sound { IfOk result Sound }
         ensures same { L.files library.new ≡ L.files library.old }
-        ensures cause { HasCause result (L.faults library.old) (L.faults library.new) (L.failed_name library.new) }
+        ensures cause { HasCause result
+            (record { count = L.faults library.old; name = L.failed_name library.old })
+            (record { count = L.faults library.new; name = L.failed_name library.new }) }
     {
         let file = owned(alloc, Text::of(alloc, main))?;
         let name = owned(alloc, Text::of(alloc, main))?;
@@ -245,7 +254,9 @@ pub fn load_files<L: Library>(
 ) -> Result<SourceList, LoadFault>
     ensures told { (told : List NamedText) → L.files library.old ≡ Some told → IsAnswer result → result ≡ sources_of told main.now }
     ensures same { L.files library.new ≡ L.files library.old }
-    ensures cause { HasCause result (L.faults library.old) (L.faults library.new) (L.failed_name library.new) }
+    ensures cause { HasCause result
+        (record { count = L.faults library.old; name = L.failed_name library.old })
+        (record { count = L.faults library.new; name = L.failed_name library.new }) }
 {
     let mut loading = Loading::first(alloc, library, main)?;
     loop {

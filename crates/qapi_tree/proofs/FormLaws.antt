@@ -7,7 +7,7 @@ settled None rest = only_form rest
 settled (Some form) [] = Some form
 settled (Some form) (k ∷ rest) = None
 
-pub settled_first : (k : KindRule) (rest : List KindRule) → settled (Some k.form) rest ≡ only_form (k ∷ rest)
+pub settled_first : (k : KindRule) (rest : List KindRule) → settled (Some k.1) rest ≡ only_form (k ∷ rest)
 settled_first k [] = refl
 settled_first k (l ∷ rest) = refl
 

@@ -15,11 +15,11 @@ use Rattle.qapi_tree.specs.Table.{name, keys, kinds}
 -- the form of an expression of one kind
 abbrev pub only_form : List KindRule → Option Form
 only_form [] = None
-only_form (k ∷ []) = Some k.form
+only_form (k ∷ []) = Some k.1
 only_form (k ∷ l ∷ more) = None
 
 abbrev pub form_of : List TreeMember → Option Form
-form_of members = only_form (filter (λ k. has_key members (name k.key)) kinds)
+form_of members = only_form (filter (λ k. has_key members (name k.0)) kinds)
 
 abbrev pub first_unknown : Form → List TreeMember → Option TreeMember
 first_unknown form members = find (λ m. is_none (rule_for form m.key)) members

@@ -41,17 +41,14 @@ name key.Any = codes "any"
 name key.Not = codes "not"
 
 -- the kinds of expressions, each by its key
+abbrev pub kind : Key → Form → KindRule
+kind key form = record { 0 = key; 1 = form }
+
 abbrev pub kinds : List KindRule
 kinds =
-    record { key = key.Include; form = form.Include }
-    ∷ record { key = key.Pragma; form = form.Pragma }
-    ∷ record { key = key.Enum; form = form.Enum }
-    ∷ record { key = key.Struct; form = form.Struct }
-    ∷ record { key = key.Union; form = form.Union }
-    ∷ record { key = key.Alternate; form = form.Alternate }
-    ∷ record { key = key.Command; form = form.Command }
-    ∷ record { key = key.Event; form = form.Event }
-    ∷ []
+    kind key.Include form.Include ∷ kind key.Pragma form.Pragma ∷ kind key.Enum form.Enum
+    ∷ kind key.Struct form.Struct ∷ kind key.Union form.Union ∷ kind key.Alternate form.Alternate
+    ∷ kind key.Command form.Command ∷ kind key.Event form.Event ∷ []
 
 -- a definition may be conditional and have features
 abbrev pub common : List KeyRule

@@ -21,11 +21,11 @@ fn form_of(members: &[TreeMember]) -> Option<Form>
 {
     let mut form = None;
     for kind in all_kinds() {
-        if has_key(members, name_of(kind.key)) {
+        if has_key(members, name_of(kind.0)) {
             if form.is_some() {
                 return None;
             }
-            form = Some(kind.form);
+            form = Some(kind.1);
         }
     }
     form

@@ -96,12 +96,7 @@ pub enum KeyRule {
 
 /// The key by which an expression is of a kind, and the kind's form.
 #[derive(Clone, Copy, Drop)]
-pub struct KindRule {
-    /// The key.
-    pub key: Key,
-    /// The form.
-    pub form: Form,
-}
+pub struct KindRule(pub Key, pub Form);
 
 /// Which value that is no list and no object a shape takes.
 #[derive(Clone, Copy, Drop)]
@@ -184,145 +179,95 @@ pub fn all_kinds() -> &'static [KindRule]
     ensures { result.now ≡ kinds }
 {
     &[
-        KindRule {
-            key: Key::Include,
-            form: Form::Include,
-        },
-        KindRule {
-            key: Key::Pragma,
-            form: Form::Pragma,
-        },
-        KindRule {
-            key: Key::Enum,
-            form: Form::Enum,
-        },
-        KindRule {
-            key: Key::Struct,
-            form: Form::Struct,
-        },
-        KindRule {
-            key: Key::Union,
-            form: Form::Union,
-        },
-        KindRule {
-            key: Key::Alternate,
-            form: Form::Alternate,
-        },
-        KindRule {
-            key: Key::Command,
-            form: Form::Command,
-        },
-        KindRule {
-            key: Key::Event,
-            form: Form::Event,
-        },
+        KindRule(Key::Include, Form::Include),
+        KindRule(Key::Pragma, Form::Pragma),
+        KindRule(Key::Enum, Form::Enum),
+        KindRule(Key::Struct, Form::Struct),
+        KindRule(Key::Union, Form::Union),
+        KindRule(Key::Alternate, Form::Alternate),
+        KindRule(Key::Command, Form::Command),
+        KindRule(Key::Event, Form::Event),
     ]
 }
-
-const INCLUDE_KEYS: [KeyRule; 1] = [KeyRule::Needed(Key::Include, Shape::Text)];
-
-const PRAGMA_KEYS: [KeyRule; 1] = [KeyRule::Needed(Key::Pragma, Shape::Object)];
-
-const ENUM_KEYS: [KeyRule; 5] = [
-    KeyRule::Needed(Key::Enum, Shape::Text),
-    KeyRule::Needed(Key::Data, Shape::Values),
-    KeyRule::Optional(Key::Prefix, Shape::Text),
-    KeyRule::Optional(Key::If, Shape::Condition),
-    KeyRule::Optional(Key::Features, Shape::Features),
-];
-
-const STRUCT_KEYS: [KeyRule; 5] = [
-    KeyRule::Needed(Key::Struct, Shape::Text),
-    KeyRule::Needed(Key::Data, Shape::Members),
-    KeyRule::Optional(Key::Base, Shape::Text),
-    KeyRule::Optional(Key::If, Shape::Condition),
-    KeyRule::Optional(Key::Features, Shape::Features),
-];
-
-const UNION_KEYS: [KeyRule; 6] = [
-    KeyRule::Needed(Key::Union, Shape::Text),
-    KeyRule::Needed(Key::Base, Shape::TextOrMembers),
-    KeyRule::Needed(Key::Discriminator, Shape::Text),
-    KeyRule::Needed(Key::Data, Shape::Branches),
-    KeyRule::Optional(Key::If, Shape::Condition),
-    KeyRule::Optional(Key::Features, Shape::Features),
-];
-
-const ALTERNATE_KEYS: [KeyRule; 4] = [
-    KeyRule::Needed(Key::Alternate, Shape::Text),
-    KeyRule::Needed(Key::Data, Shape::Branches),
-    KeyRule::Optional(Key::If, Shape::Condition),
-    KeyRule::Optional(Key::Features, Shape::Features),
-];
-
-const COMMAND_KEYS: [KeyRule; 11] = [
-    KeyRule::Needed(Key::Command, Shape::Text),
-    KeyRule::Optional(Key::Data, Shape::TextOrMembers),
-    KeyRule::Optional(Key::Returns, Shape::Reference),
-    KeyRule::Optional(Key::Boxed, Shape::Flag),
-    KeyRule::Optional(Key::Gen, Shape::Flag),
-    KeyRule::Optional(Key::AllowOob, Shape::Flag),
-    KeyRule::Optional(Key::AllowPreconfig, Shape::Flag),
-    KeyRule::Optional(Key::Coroutine, Shape::Flag),
-    KeyRule::Optional(Key::SuccessResponse, Shape::Flag),
-    KeyRule::Optional(Key::If, Shape::Condition),
-    KeyRule::Optional(Key::Features, Shape::Features),
-];
-
-const EVENT_KEYS: [KeyRule; 5] = [
-    KeyRule::Needed(Key::Event, Shape::Text),
-    KeyRule::Optional(Key::Data, Shape::TextOrMembers),
-    KeyRule::Optional(Key::Boxed, Shape::Flag),
-    KeyRule::Optional(Key::If, Shape::Condition),
-    KeyRule::Optional(Key::Features, Shape::Features),
-];
-
-const MEMBER_KEYS: [KeyRule; 3] = [
-    KeyRule::Needed(Key::Type, Shape::Reference),
-    KeyRule::Optional(Key::If, Shape::Condition),
-    KeyRule::Optional(Key::Features, Shape::Features),
-];
-
-const VALUE_KEYS: [KeyRule; 3] = [
-    KeyRule::Needed(Key::Name, Shape::Text),
-    KeyRule::Optional(Key::If, Shape::Condition),
-    KeyRule::Optional(Key::Features, Shape::Features),
-];
-
-const BRANCH_KEYS: [KeyRule; 2] = [
-    KeyRule::Needed(Key::Type, Shape::Reference),
-    KeyRule::Optional(Key::If, Shape::Condition),
-];
-
-const FEATURE_KEYS: [KeyRule; 2] = [
-    KeyRule::Needed(Key::Name, Shape::Text),
-    KeyRule::Optional(Key::If, Shape::Condition),
-];
-
-const CHOICE_KEYS: [KeyRule; 3] = [
-    KeyRule::Optional(Key::All, Shape::Conditions),
-    KeyRule::Optional(Key::Any, Shape::Conditions),
-    KeyRule::Optional(Key::Not, Shape::Condition),
-];
 
 /// The keys of a form, in the order in which a missing one is told.
 pub fn keys_of(form: Form) -> &'static [KeyRule]
     ensures { result.now ≡ keys form }
 {
     match form {
-        Form::Include => &INCLUDE_KEYS,
-        Form::Pragma => &PRAGMA_KEYS,
-        Form::Enum => &ENUM_KEYS,
-        Form::Struct => &STRUCT_KEYS,
-        Form::Union => &UNION_KEYS,
-        Form::Alternate => &ALTERNATE_KEYS,
-        Form::Command => &COMMAND_KEYS,
-        Form::Event => &EVENT_KEYS,
-        Form::Member => &MEMBER_KEYS,
-        Form::Value => &VALUE_KEYS,
-        Form::Branch => &BRANCH_KEYS,
-        Form::Feature => &FEATURE_KEYS,
-        Form::Choice => &CHOICE_KEYS,
+        Form::Include => &[KeyRule::Needed(Key::Include, Shape::Text)],
+        Form::Pragma => &[KeyRule::Needed(Key::Pragma, Shape::Object)],
+        Form::Enum => &[
+            KeyRule::Needed(Key::Enum, Shape::Text),
+            KeyRule::Needed(Key::Data, Shape::Values),
+            KeyRule::Optional(Key::Prefix, Shape::Text),
+            KeyRule::Optional(Key::If, Shape::Condition),
+            KeyRule::Optional(Key::Features, Shape::Features),
+        ],
+        Form::Struct => &[
+            KeyRule::Needed(Key::Struct, Shape::Text),
+            KeyRule::Needed(Key::Data, Shape::Members),
+            KeyRule::Optional(Key::Base, Shape::Text),
+            KeyRule::Optional(Key::If, Shape::Condition),
+            KeyRule::Optional(Key::Features, Shape::Features),
+        ],
+        Form::Union => &[
+            KeyRule::Needed(Key::Union, Shape::Text),
+            KeyRule::Needed(Key::Base, Shape::TextOrMembers),
+            KeyRule::Needed(Key::Discriminator, Shape::Text),
+            KeyRule::Needed(Key::Data, Shape::Branches),
+            KeyRule::Optional(Key::If, Shape::Condition),
+            KeyRule::Optional(Key::Features, Shape::Features),
+        ],
+        Form::Alternate => &[
+            KeyRule::Needed(Key::Alternate, Shape::Text),
+            KeyRule::Needed(Key::Data, Shape::Branches),
+            KeyRule::Optional(Key::If, Shape::Condition),
+            KeyRule::Optional(Key::Features, Shape::Features),
+        ],
+        Form::Command => &[
+            KeyRule::Needed(Key::Command, Shape::Text),
+            KeyRule::Optional(Key::Data, Shape::TextOrMembers),
+            KeyRule::Optional(Key::Returns, Shape::Reference),
+            KeyRule::Optional(Key::Boxed, Shape::Flag),
+            KeyRule::Optional(Key::Gen, Shape::Flag),
+            KeyRule::Optional(Key::AllowOob, Shape::Flag),
+            KeyRule::Optional(Key::AllowPreconfig, Shape::Flag),
+            KeyRule::Optional(Key::Coroutine, Shape::Flag),
+            KeyRule::Optional(Key::SuccessResponse, Shape::Flag),
+            KeyRule::Optional(Key::If, Shape::Condition),
+            KeyRule::Optional(Key::Features, Shape::Features),
+        ],
+        Form::Event => &[
+            KeyRule::Needed(Key::Event, Shape::Text),
+            KeyRule::Optional(Key::Data, Shape::TextOrMembers),
+            KeyRule::Optional(Key::Boxed, Shape::Flag),
+            KeyRule::Optional(Key::If, Shape::Condition),
+            KeyRule::Optional(Key::Features, Shape::Features),
+        ],
+        Form::Member => &[
+            KeyRule::Needed(Key::Type, Shape::Reference),
+            KeyRule::Optional(Key::If, Shape::Condition),
+            KeyRule::Optional(Key::Features, Shape::Features),
+        ],
+        Form::Value => &[
+            KeyRule::Needed(Key::Name, Shape::Text),
+            KeyRule::Optional(Key::If, Shape::Condition),
+            KeyRule::Optional(Key::Features, Shape::Features),
+        ],
+        Form::Branch => &[
+            KeyRule::Needed(Key::Type, Shape::Reference),
+            KeyRule::Optional(Key::If, Shape::Condition),
+        ],
+        Form::Feature => &[
+            KeyRule::Needed(Key::Name, Shape::Text),
+            KeyRule::Optional(Key::If, Shape::Condition),
+        ],
+        Form::Choice => &[
+            KeyRule::Optional(Key::All, Shape::Conditions),
+            KeyRule::Optional(Key::Any, Shape::Conditions),
+            KeyRule::Optional(Key::Not, Shape::Condition),
+        ],
     }
 }
 

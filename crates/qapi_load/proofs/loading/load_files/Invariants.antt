@@ -8,6 +8,7 @@ invariant-loop-next g l = record {
   told : (told : List NamedText) → g.L.Library.files l.fn.library ≡ Some told → sources_of told l.main ≡ outcome_of told l.loading;
   same : g.L.Library.files l.library ≡ g.L.Library.files l.fn.library;
   kept : g.L.Library.faults l.library ≡ g.L.Library.faults l.fn.library;
+  kept_name : g.L.Library.failed_name l.library ≡ g.L.Library.failed_name l.fn.library;
 }
 
 -- each step begins a file or ends one
