@@ -132,6 +132,6 @@ fn members_stand_in_their_order(rt: HostRuntime) -> Result<(), Fail> {
             }
         }
     }
-    assert_eq!(rt; out.as_slice(), b"2datastructE3gencommandx\\y".as_slice());
+    assert_eq!(rt; out.as_slice(), b"2datastructE4gencommandx\\y".as_slice());
     Ok(())
 }
