@@ -1,5 +1,5 @@
 -- The lines of a script (this project's own rule).
-use Rattle.std.specs.Prelude.{ℕ, ◌==◌, Bool, cond, List, [], ◌∷◌, length}
+use Rattle.std.specs.Prelude.{ℕ, ◌==◌, Bool, if◌then◌else◌, List, [], ◌∷◌, length}
 use Rattle.std.specs.List.{slice_split}
 
 abbrev pub is_line_feed : ℕ → Bool
@@ -8,7 +8,7 @@ is_line_feed x = x == 10
 -- what follows the last LF is a line where it is not empty
 abbrev pub whole_lines : List (List ℕ) → List (List ℕ)
 whole_lines [] = []
-whole_lines (line ∷ []) = cond (length line == 0) [] (line ∷ [])
+whole_lines (line ∷ []) = if length line == 0 then [] else line ∷ []
 whole_lines (line ∷ next ∷ others) = line ∷ whole_lines (next ∷ others)
 
 -- each line without its LF, which the last may lack

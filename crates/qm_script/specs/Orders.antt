@@ -1,6 +1,8 @@
 -- What a line of a script orders (this project's own rule).
-use Rattle.std.specs.Prelude.{ℕ, ◌+◌, ◌*◌, ◌^◌, ◌-◌, ◌%◌, position, [], ◌∷◌, ◌==◌, nat_lt, nat_le, nat_eq, Bool, cond, ◌&&◌, ◌||◌, List, length, take, drop, codes, Option, Some, None, is_some, option_map}
-use Rattle.std.specs.{List.starts_with, List.list_all, Option.option_and_then, Option.option_or, Str.bytes_eq}
+use Rattle.std.specs.Prelude.{ℕ, ◌+◌, ◌*◌, ◌^◌, ◌-◌, ◌%◌, position, [], ◌∷◌, ◌==◌, nat_lt, nat_le, nat_eq, Bool, if◌then◌else◌, ◌&&◌, ◌||◌, List, length, take, drop, codes, Option, Some, None, is_some, option_map}
+use Rattle.std.specs.List.{starts_with, list_all}
+use Rattle.std.specs.Option.{option_and_then, option_or}
+use Rattle.std.specs.Str.{bytes_eq}
 use Rattle.qm_base.specs.Numerals.{number_of}
 use Rattle.qm_core.specs.Texts.{cause_of}
 use Rattle.qm_script.specs.declared.orders.Order.{Order}
@@ -8,7 +10,7 @@ use Rattle.qm_script.specs.declared.orders.Order.TheVariants.{Open, Text, Feed, 
 
 -- what follows a word at the front of a line
 abbrev pub after_word : List ℕ → List ℕ → Option (List ℕ)
-after_word word line = cond (starts_with nat_eq line word) (Some (drop (length word) line)) None
+after_word word line = if starts_with nat_eq line word then Some (drop (length word) line) else None
 
 abbrev pub is_blank : ℕ → Bool
 is_blank x = x == 32
@@ -29,7 +31,7 @@ abbrev pub after_blank : List ℕ → List ℕ
 after_blank text = after_at text (position is_blank text)
 
 abbrev pub below : ℕ → ℕ → Option ℕ
-below most n = cond (nat_lt n most) (Some n) None
+below most n = if nat_lt n most then Some n else None
 
 -- a session number, of 32 bits
 abbrev pub session_number : List ℕ → Option ℕ
@@ -37,12 +39,11 @@ session_number text = option_and_then (below (2 ^ 32)) (number_of text)
 
 -- `S REST`, where REST may be empty
 abbrev pub text_order : List ℕ → Option Order
-text_order text =
-    cond (is_some (position is_blank text)) (option_map Text (session_number (before_blank text))) None
+text_order text = if is_some (position is_blank text) then option_map Text (session_number (before_blank text)) else None
 
 -- the value of a hexadecimal digit in lower case, and 0 for any other byte
 abbrev pub hex_value : ℕ → ℕ
-hex_value x = cond (nat_le 48 x && nat_le x 57) (x - 48) (cond (nat_le 97 x && nat_le x 102) (x - 87) 0)
+hex_value x = if nat_le 48 x && nat_le x 57 then x - 48 else if nat_le 97 x && nat_le x 102 then x - 87 else 0
 
 abbrev pub is_hex_digit : ℕ → Bool
 is_hex_digit x = (nat_le 48 x && nat_le x 57) || (nat_le 97 x && nat_le x 102)
@@ -59,7 +60,7 @@ is_hex text = nat_lt 0 (length text) && (length text % 2 == 0) && list_all is_he
 
 -- `S HEX`
 abbrev pub feed_order : List ℕ → Option Order
-feed_order text = cond (is_hex (after_blank text)) (option_map Feed (session_number (before_blank text))) None
+feed_order text = if is_hex (after_blank text) then option_map Feed (session_number (before_blank text)) else None
 
 -- `S CAUSE`
 abbrev pub drop_order : List ℕ → Option Order
@@ -82,7 +83,10 @@ long_order_of line =
 
 -- the order of a line; None for any other line
 abbrev pub order_of : List ℕ → Option Order
-order_of line = cond (bytes_eq line (codes "open")) (Some Open) (cond (bytes_eq line (codes "start")) (Some Start) (long_order_of line))
+order_of line =
+    if bytes_eq line (codes "open") then Some Open
+    else if bytes_eq line (codes "start") then Some Start
+    else long_order_of line
 
 -- an empty line or a comment
 abbrev pub is_skipped : List ℕ → Bool

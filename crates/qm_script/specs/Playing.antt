@@ -1,5 +1,5 @@
 -- What a script plays (this project's own rule).
-use Rattle.std.specs.Prelude.{ℕ, ◌+◌, ◌-◌, ◌^◌, ◌==◌, min, cond, List, [], ◌∷◌, ◌++◌, length, slice_get, unwrap_or, Option, Some, None, Result, Ok, Err}
+use Rattle.std.specs.Prelude.{ℕ, ◌+◌, ◌-◌, ◌^◌, ◌==◌, min, if◌then◌else◌, List, [], ◌∷◌, ◌++◌, length, slice_get, unwrap_or, Option, Some, None, Result, Ok, Err}
 use Rattle.std.proofs.Math.ListN.{set}
 use Rattle.qm_core.specs.{Legal.past_of, Next.refusal_of, Next.entry_of, Next.session_refusal}
 use Rattle.qm_core.specs.Next as step
@@ -32,9 +32,9 @@ core_step limits played step = stepped played (refusal_of limits (past_of played
 -- an `open`, of which there is one
 abbrev pub open_step : Limits → Played → Result Played Stop
 open_step limits played =
-    cond (length (sessions_of (past_of played.journal)) == 0)
-    (core_step limits record { journal = played.journal; fed = played.fed ++ [] ∷ [] } step.Open)
-    (Err BadLine)
+    if length (sessions_of (past_of played.journal)) == 0
+    then core_step limits record { journal = played.journal; fed = played.fed ++ [] ∷ [] } step.Open
+    else Err BadLine
 
 -- bytes for a session that was opened and not closed
 abbrev pub fed_step : Played → ℕ → List ℕ → Option StepFault → Result Played Stop
@@ -70,7 +70,7 @@ ordered limits played line (Some (order.Drop s cause)) = core_step limits played
 
 -- what a line does; empty lines and comments do nothing
 abbrev pub line_step : Limits → Played → List ℕ → Result Played Stop
-line_step limits played line = cond (is_skipped line) (Ok played) (ordered limits played line (order_of line))
+line_step limits played line = if is_skipped line then Ok played else ordered limits played line (order_of line)
 
 -- what was played in the end, and the line that was refused, if one was
 pub record Ended : Type 0 where

@@ -15,14 +15,18 @@ pub record Sinking : Type 0 where
 abbrev pub sunk : {S : Type 0} → (S → Option (List ℕ)) → (S → ℕ) → S → S → Sinking
 sunk contents faults old new = record { held = contents old; holds = contents new; before = faults old; now = faults new }
 
--- the answer of a play, with its cause
-pub record Plays (ended : Ended) (sinking : Sinking) (end : PlayEnd) : Type 0 where
-  -- without a fault of the sink and want of memory, the end and the bytes are those of the script
-  pub end_is : end ≢ SinkFault → end ≢ Memory → end ≡ end_of ended.refused
-  pub whole : end ≢ SinkFault → end ≢ Memory → sinking.holds ≡ told_more sinking.held (transcript_text_of ended)
+-- the answer of what puts bytes and wants this answer, which the sink's fault or want of memory may replace
+pub record Putting {E : Type 0} (fault memory wanted : E) (bytes : List ℕ) (sinking : Sinking) (answer : E) : Type 0 where
+  -- without either, the answer is the one that is wanted, and all bytes were put
+  pub is_wanted : answer ≢ fault → answer ≢ memory → answer ≡ wanted
+  pub whole : answer ≢ fault → answer ≢ memory → sinking.holds ≡ told_more sinking.held bytes
   -- after either, a part of the bytes was put
-  pub part_at_fault : end ≡ SinkFault → HoldsPart sinking.held (transcript_text_of ended) sinking.holds
-  pub part_at_memory : end ≡ Memory → HoldsPart sinking.held (transcript_text_of ended) sinking.holds
+  pub part_at_fault : answer ≡ fault → HoldsPart sinking.held bytes sinking.holds
+  pub part_at_memory : answer ≡ memory → HoldsPart sinking.held bytes sinking.holds
   -- the sink failed exactly where its count rose
-  pub sink_failed : end ≡ SinkFault → Rose sinking.before sinking.now
-  pub sink_kept : end ≢ SinkFault → sinking.now ≡ sinking.before
+  pub failed : answer ≡ fault → Rose sinking.before sinking.now
+  pub kept : answer ≢ fault → sinking.now ≡ sinking.before
+
+-- the answer of a play: its end is that of the script, and the bytes are the transcript
+abbrev pub Plays : Ended → Sinking → PlayEnd → Type 0
+Plays ended sinking end = Putting SinkFault Memory (end_of ended.refused) (transcript_text_of ended) sinking end

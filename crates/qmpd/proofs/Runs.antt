@@ -205,8 +205,8 @@ done : (files : List NamedText) (ran : Ran) (status : ℕ) → ((told : List Nam
     ran.library_now ≡ ran.library_before → Ends (output_of ran.words files).bytes (output_of ran.words files).status ran.sink status → Answers ran status
 done files ran status told kept ends =
     answers files ran status told
-    (gives files ran status (λ one six seven. (ends.status_is one seven, ends.whole one seven)) ends.part_at_memory (λ seven. inl (ends.part_at_fault seven)))
-    (λ six. absurd (never_unread ran.words files (output_of ran.words files).status (cause_of ran.words files) (sym (ends.status_is (λ e. cc) (λ e. cc)) ∙ six)))
+    (gives files ran status (λ one six seven. (ends.is_wanted seven one, ends.whole seven one)) ends.part_at_memory (λ seven. inl (ends.part_at_fault seven)))
+    (λ six. absurd (never_unread ran.words files (output_of ran.words files).status (cause_of ran.words files) (sym (ends.is_wanted (λ e. cc) (λ e. cc)) ∙ six)))
     (λ one six seven. kept) ends.failed ends.kept
 
 -- the words are outside the grammar
@@ -243,7 +243,7 @@ pub unread : (ran : Ran) (status : ℕ) (replay : Replay) (name : List ℕ) → 
     (status ≡ 1 → ran.sink.holds ≡ ran.sink.held) → Answers ran status
 unread ran status replay name asked is rose noted ends nothing =
     let files = run_files ran.files [] None in
-    let six : status ≢ 1 → status ≢ 7 → status ≡ 6 = λ one seven. ends.status_is one seven in
+    let six : status ≢ 1 → status ≢ 7 → status ≡ 6 = λ one seven. ends.is_wanted seven one in
     let named : IsNamed ran.words ran.failed_name =
     ap (λ (r : Option Replay). option_map (λ (replay : Replay). replay.script) r) asked ∙ ap (λ (l : List ℕ). Some l) (sym (noted ∙ is)) in
     let line : Ends (cannot_read ran.failed_name) 6 ran.sink status = subst (λ (n : List ℕ). Ends (cannot_read n) 6 ran.sink status) (sym noted) ends in

@@ -2,9 +2,12 @@
 use Rattle.std.specs.Prelude.{◌≡◌, ◌≢◌, ℕ, true, false, List, Option, Some, None, option_map, ◌⊎◌}
 use Rattle.qm_base.specs.{Faults.Rose, Faults.told_more, Faults.HoldsPart, Prefixes.IsPrefix}
 use Rattle.qapi_load.specs.Files.{NamedText}
-use Rattle.qm_core.specs.{Legal.IsLegal, Legal.past_of, Transcript.taken_of, Transcript.transcript_of}
-use Rattle.qm_script.specs.Plays.{Sinking}
-use Rattle.qmpd.specs.{Causes.Misses, Causes.Stops, Output.output_of, Output.journal_for, Output.cannot_read, Words.replay_of}
+use Rattle.qm_core.specs.Legal.{IsLegal, past_of}
+use Rattle.qm_core.specs.Transcript.{taken_of, transcript_of}
+use Rattle.qm_script.specs.Plays.{Sinking, Putting}
+use Rattle.qmpd.specs.Causes.{Misses, Stops}
+use Rattle.qmpd.specs.Output.{output_of, journal_for, cannot_read}
+use Rattle.qmpd.specs.Words.{replay_of}
 
 -- the words, and the library and the sink before and after the run: the files that the library
 -- tells, its count of faults, and the name of the latest file whose reading failed
@@ -16,15 +19,10 @@ pub record Ran : Type 0 where
   pub failed_name : List ℕ
   pub sink : Sinking
 
--- the answer of a part of the run that puts these bytes and wants this status: 1 where memory was
--- wanting and 7 where the sink failed, after a part of the bytes
-pub record Ends (bytes : List ℕ) (wanted : ℕ) (sinking : Sinking) (status : ℕ) : Type 0 where
-  pub status_is : status ≢ 1 → status ≢ 7 → status ≡ wanted
-  pub whole : status ≢ 1 → status ≢ 7 → sinking.holds ≡ told_more sinking.held bytes
-  pub part_at_memory : status ≡ 1 → HoldsPart sinking.held bytes sinking.holds
-  pub part_at_fault : status ≡ 7 → HoldsPart sinking.held bytes sinking.holds
-  pub failed : status ≡ 7 → Rose sinking.before sinking.now
-  pub kept : status ≢ 7 → sinking.now ≡ sinking.before
+-- the answer of a part of the run that puts these bytes and wants this status: 7 where the sink
+-- failed, and 1 where memory was wanting
+abbrev pub Ends : List ℕ → ℕ → Sinking → ℕ → Type 0
+Ends bytes wanted sinking status = Putting 7 1 wanted bytes sinking status
 
 -- a file that the words name
 abbrev pub IsNamed : List (List ℕ) → List ℕ → Type 0
