@@ -58,7 +58,8 @@ work_of table = record {
   table = flat_map (λ job. kept (record job { state = worked job.state })) table;
 }
 
--- a call did what is told, or found no memory, of which a refusal has no need; after an error the table is as before
+-- a call did what is told, or found no memory, of which a refusal has no need; after an error the
+-- table is as before
 pub record Does (told : Result Outcome JobFault) (old : List Job) (result : Result (List Change) JobFault) (new : List Job) : Type 0 where
   pub ok : IfOk result (λ changes. told ≡ Ok (record { changes = changes; table = new }))
   pub err : IfErr result (λ fault. fault ≢ Memory → told ≡ Err fault)

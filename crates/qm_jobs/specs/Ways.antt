@@ -8,7 +8,7 @@ use Rattle.qm_plan.specs.declared.verbs.Verb.{Verb}
 use Rattle.qm_plan.specs.declared.verbs.Verb.TheVariants.{Cancel, Pause, Resume, Complete, Finalize, Dismiss}
 
 -- a way for each status at which a job can stand
-abbrev pub ways : Option Way → Option Way → Option Way → Option Way → Option Way → Option Way → Status → Option Way
+abbrev pub ways : (running paused ready standby pending concluded : Option Way) → Status → Option Way
 ways running paused ready standby pending concluded Running = running
 ways running paused ready standby pending concluded Paused = paused
 ways running paused ready standby pending concluded Ready = ready

@@ -74,7 +74,8 @@ impl Model for Jobs {
 
 /// Lets the job of an id stand so, where it is there.
 fn set_state(states: &mut IndexMap<Vec<u8>, JobState>, id: &[u8], state: JobState)
-    ensures states { states.new.entries ≡ set_value (λ k. bytes_eq id.now k.items) states.old.entries state }
+    ensures states { states.new.entries ≡
+        set_value (λ k. bytes_eq id.now k.items) states.old.entries state }
     ensures unique { IsDistinct (λ x y. bytes_eq x.items y.items) (keys_of states.old.entries) }
 {
     if let Some(place) = states.get_mut(id) {
@@ -90,7 +91,8 @@ fn is_one_running(states: &IndexMap<Vec<u8>, JobState>) -> bool
 
 /// The changes of one unit of each running job.
 fn work_changes(alloc: Global, states: &IndexMap<Vec<u8>, JobState>) -> Result<ChangeList, NoMemory>
-    ensures { IfOk result (λ changes. changes ≡ flat_map (λ e. unit_changes e.0.items e.1) states.now.entries) }
+    ensures { IfOk result (λ changes. changes ≡
+        flat_map (λ e. unit_changes e.0.items e.1) states.now.entries) }
 {
     let mut changes = ChangeList::new(alloc);
     for (id, state) in states {
@@ -144,7 +146,8 @@ impl Jobs {
     /// Puts a job behind the others, whose id is not in the table.
     fn push(&mut self, alloc: Global, id: &[u8], state: JobState) -> Result<(), NoMemory>
         requires { list_any (has_id id.now) self.old ≡ false }
-        ensures ok { OnOk result (self.new ≡ self.old ++ record { id = id.now; state = state } ∷ []) }
+        ensures ok { OnOk result (self.new ≡
+            self.old ++ record { id = id.now; state = state } ∷ []) }
         ensures err { OnErr result (self.new ≡ self.old) }
     {
         let Ok(key) = Vec::from_slice(alloc, id) else {
@@ -167,7 +170,8 @@ impl Jobs {
         ready: bool,
         manual: bool,
     ) -> Result<ChangeList, JobFault>
-        ensures { Does (start_of self.old id.now (started units ready manual)) self.old result self.new }
+        ensures { Does (start_of self.old id.now (started units ready manual))
+            self.old result self.new }
     {
         if self.has(id.as_slice()) {
             return Err(JobFault::JobExists);
@@ -217,8 +221,8 @@ impl Jobs {
     }
 
     /// Does what a verb asks of the job of an id. `NoJob` comes exactly where the id is not in the
-    /// table, and `NotInThisState` exactly where the verb leads nowhere from the job's status, which
-    /// it tells. An error leaves the table as it was.
+    /// table, and `NotInThisState` exactly where the verb leads nowhere from the job's status,
+    /// which it tells. An error leaves the table as it was.
     pub fn verb(&mut self, alloc: Global, verb: Verb, id: &Text) -> Result<ChangeList, JobFault>
         ensures { Does (verb_of self.old verb id.now) self.old result self.new }
     {
@@ -246,7 +250,8 @@ impl Jobs {
     /// Does one unit of each running job, in the order of starting. An error leaves the table as it
     /// was.
     pub fn work(&mut self, alloc: Global) -> Result<ChangeList, NoMemory>
-        ensures ok { IfOk result (λ changes. record { changes = changes; table = self.new } ≡ work_of self.old) }
+        ensures ok { IfOk result (λ changes.
+            record { changes = changes; table = self.new } ≡ work_of self.old) }
         ensures err { OnErr result (self.new ≡ self.old) }
     {
         let changes = work_changes(alloc, &self.states)?;

@@ -27,7 +27,8 @@ fn word(alloc: Global, status: Status) -> Result<Json, NoMemory>
 
 /// A job's id and status.
 fn words(alloc: Global, id: &[u8], status: Status) -> Result<Members, NoMemory>
-    ensures { IfOk result (λ members. members ≡ named (codes "id") (Str id.now) ∷ named (codes "status") (Str (name_of status)) ∷ []) }
+    ensures { IfOk result (λ members. members ≡
+        named (codes "id") (Str id.now) ∷ named (codes "status") (Str (name_of status)) ∷ []) }
 {
     let mut members = Members::new(alloc);
     let id = Json::string(alloc, id)?;
@@ -52,7 +53,8 @@ pub(crate) fn infos(
     alloc: Global,
     states: &IndexMap<Vec<u8>, JobState>,
 ) -> Result<Items<Json>, NoMemory>
-    ensures { IfOk result (λ items. items ≡ map (λ e. info_of (record { id = e.0.items; state = e.1 })) states.now.entries) }
+    ensures { IfOk result (λ items. items ≡
+        map (λ e. info_of (record { id = e.0.items; state = e.1 })) states.now.entries) }
 {
     let mut items = Items::new(alloc);
     for (id, state) in states {

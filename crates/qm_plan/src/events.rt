@@ -9,7 +9,8 @@ pub type Names = GrowingList<Text>;
 pub struct Period {
     /// The event's name.
     pub name: Text,
-    /// How long a window stays open at least, in microseconds; 0 where each event is sent when raised.
+    /// How long a window stays open at least, in microseconds; 0 where each event is sent when it
+    /// is raised.
     pub micros: u64,
     /// The members of the payload by whose values the windows are told apart.
     pub key: Names,

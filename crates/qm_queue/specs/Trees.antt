@@ -1,5 +1,5 @@
--- A tree over the places of a list, in which each place tells the best of its own item and of what stands
--- below it. Below the place k stand the places 2k+1 and 2k+2.
+-- A tree over the places of a list, in which each place tells the best of its own item and of what
+-- stands below it. Below the place k stand the places 2k+1 and 2k+2. This serves private functions.
 use Rattle.std.specs.Prelude.{◌≡◌, ◌≢◌, ℕ, ◌+◌, ◌*◌, List, length, Option, Some, None, slice_index_or}
 use Rattle.qm_queue.specs.{Turns.earlier_of, declared.turns.TurnItem.TurnItem}
 

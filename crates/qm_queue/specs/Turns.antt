@@ -3,14 +3,16 @@ use Rattle.std.specs.Prelude.{ℕ, nat_lt, Bool, true, false, not, cond, ◌&&�
 use Rattle.std.specs.List.{list_any}
 use Rattle.qm_queue.specs.declared.turns.TurnItem.{TurnItem}
 
--- the one last start stands earlier than the other; a session that was never started comes before all that were
+-- the one last start stands earlier than the other; a session that was never started comes before
+-- all that were
 abbrev pub starts_earlier : Option ℕ → Option ℕ → Bool
 starts_earlier None None = false
 starts_earlier None (Some n) = true
 starts_earlier (Some m) None = false
 starts_earlier (Some m) (Some n) = nat_lt m n
 
--- the one has its turn before the other: its last start stands earlier, or as early, and its number is lower
+-- the one has its turn before the other: its last start stands earlier, or neither's does and its
+-- number is lower
 abbrev pub precedes : TurnItem → TurnItem → Bool
 precedes a b =
     starts_earlier a.last_start b.last_start
