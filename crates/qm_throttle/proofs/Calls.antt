@@ -13,7 +13,7 @@ use Rattle.qm_throttle.specs.Keys.{key_order, same_key, period_of}
 use Rattle.qm_throttle.specs.Steps.{Throttling, Follows, Steps, Does, Stepped, opened_by, keeping, behind, raised_among, opens_again, ticked, sent_at, stepped}
 use Rattle.qm_throttle.specs.Windows.{Call, Raise, Tick, Cut, Open, cut_from, cut_of, concerns, fresh_window, keys_after, sent_of, sent_for, window_of, windows_for, windows_of, due_in, due_of}
 use Rattle.qm_throttle.specs.declared.sent.Sent.{Sent}
-use Rattle.qm_throttle.specs.declared.keys.Key.{Key}
+use Rattle.qm_throttle.specs.Keys.{Key}
 use Rattle.qm_plan.specs.declared.events.Period.{Period}
 use Rattle.qm_throttle.specs.declared.window.Window.{Window}
 use Rattle.qm_throttle.proofs.Cuts.{sends, moves, moved, reopened, cut-more, none_without_period}

@@ -13,7 +13,7 @@ use Rattle.qm_throttle.specs.Deadlines.{due_order, has_due, key_comes, has_come,
 use Rattle.qm_throttle.specs.Keys.{key_order}
 use Rattle.qm_throttle.specs.Steps.{window_at}
 use Rattle.qm_throttle.specs.declared.due.Due.{Due}
-use Rattle.qm_throttle.specs.declared.keys.Key.{Key}
+use Rattle.qm_throttle.specs.Keys.{Key}
 use Rattle.qm_throttle.specs.declared.window.Window.{Window}
 use Rattle.qm_throttle.proofs.Keeping.{due_at, tied_at}
 use Rattle.qm_throttle.proofs.Orders.{key_self, key_back, key_equal}

@@ -9,7 +9,7 @@ use Rattle.std.specs.declared.cmp.Ordering.TheVariants.{Less, Greater}
 use Rattle.qm_throttle.specs.Deadlines.{Lasts}
 use Rattle.qm_throttle.specs.Keys.{key_order}
 use Rattle.qm_throttle.specs.Steps.{window_at}
-use Rattle.qm_throttle.specs.declared.keys.Key.{Key}
+use Rattle.qm_throttle.specs.Keys.{Key}
 use Rattle.qm_throttle.specs.declared.window.Window.{Window}
 use Rattle.qm_throttle.proofs.Orders.{IsBefore, IsInOrder, key_self, key_back}
 use Rattle.qm_throttle.proofs.Sorting.{in_order_from_sorted}

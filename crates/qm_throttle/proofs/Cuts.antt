@@ -4,7 +4,7 @@ use Rattle.std.specs.Option.{option_map, option_to_list}
 use Rattle.std.proofs.lemmas.List.{take-append-le}
 use Rattle.std.proofs.Math.Seq.{take-length}
 use Rattle.qm_throttle.specs.Windows.{Call, Raise, Tick, Cut, End, Open, cut_from, window_cut, end_of, last_raised, opened, fresh_window, after_sent, one_later, option_or}
-use Rattle.qm_throttle.specs.declared.keys.Key.{Key}
+use Rattle.qm_throttle.specs.Keys.{Key}
 use Rattle.qm_throttle.specs.declared.sent.Sent.{Sent}
 
 -- what one call sends

@@ -14,7 +14,7 @@ use Rattle.qm_throttle.specs.Deadlines.{has_come}
 use Rattle.qm_throttle.specs.Endings.{opened_again, kept_of, opened_in, after_end, ended_in, ended_at}
 use Rattle.qm_throttle.specs.Keys.{key_order, key_total, same_key}
 use Rattle.qm_throttle.specs.Steps.{window_at, opens_again, ticked, sent_at}
-use Rattle.qm_throttle.specs.declared.keys.Key.{Key}
+use Rattle.qm_throttle.specs.Keys.{Key}
 use Rattle.qm_throttle.specs.declared.sent.Sent.{Sent}
 use Rattle.qm_throttle.specs.declared.window.Window.{Window}
 use Rattle.qm_throttle.proofs.Orders.{IsBefore, IsInOrder, is_in, key_self, key_back, key_equal, none_before}

@@ -12,7 +12,7 @@ use Rattle.qm_throttle.specs.Keys.{key_order}
 use Rattle.qm_throttle.specs.Steps.{window_at}
 use Rattle.qm_throttle.specs.Windows.{lesser, due_in}
 use Rattle.qm_throttle.specs.declared.due.Due.{Due}
-use Rattle.qm_throttle.specs.declared.keys.Key.{Key}
+use Rattle.qm_throttle.specs.Keys.{Key}
 use Rattle.qm_throttle.specs.declared.window.Window.{Window}
 use Rattle.qm_throttle.proofs.Keeping.{due_at, none_at}
 use Rattle.qm_throttle.proofs.Orders.{IsInOrder, key_self, key_equal}

@@ -12,7 +12,7 @@ use Rattle.qm_throttle.specs.Deadlines.{due_order, has_due, ends_at, is_due, Las
 use Rattle.qm_throttle.specs.Keys.{key_order, same_key}
 use Rattle.qm_throttle.specs.Steps.{Stepped, window_at, keeping, kept_in, kept_at, unkept, opened_by, behind, raised_among}
 use Rattle.qm_throttle.specs.declared.due.Due.{Due}
-use Rattle.qm_throttle.specs.declared.keys.Key.{Key}
+use Rattle.qm_throttle.specs.Keys.{Key}
 use Rattle.qm_throttle.specs.declared.sent.Sent.{Sent}
 use Rattle.qm_throttle.specs.declared.window.Window.{Window}
 use Rattle.qm_throttle.proofs.Orders.{IsBefore, IsInOrder, before_trans, key_equal}

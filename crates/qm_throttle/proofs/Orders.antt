@@ -9,7 +9,7 @@ use Rattle.std.specs.declared.cmp.Ordering.TheVariants.{Less, Equal, Greater}
 use Rattle.std.proofs.lemmas.Cmp.{tied_itself}
 use Rattle.qm_throttle.specs.Keys.{key_order, key_total, same_key, with_key}
 use Rattle.qm_throttle.specs.Windows.{Call, Raise, Tick, keys_after, with_call}
-use Rattle.qm_throttle.specs.declared.keys.Key.{Key}
+use Rattle.qm_throttle.specs.Keys.{Key}
 
 pub key_self : (k : Key) → key_order k k ≡ Equal
 key_self k = tied_itself key_total k

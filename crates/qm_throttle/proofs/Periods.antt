@@ -14,7 +14,7 @@ use Rattle.qm_plan.specs.declared.events.Raised.{Raised}
 use Rattle.qm_throttle.specs.Keys.{key_by, key_of, period_of}
 use Rattle.qm_throttle.specs.Steps.{Throttling, Does, IsHeld, Stepped, raised_in, raised_among, window_at}
 use Rattle.qm_throttle.specs.Windows.{event_of, raise_of}
-use Rattle.qm_throttle.specs.declared.keys.Key.{Key}
+use Rattle.qm_throttle.specs.Keys.{Key}
 use Rattle.qm_throttle.specs.declared.sent.Sent.{Sent}
 
 apart_at : (name : List ℕ) (ps : List Period) (i : ℕ) (p : Period) → i < length ps → p ≡ get_or ps i p → list_any (λ other. bytes_eq other name) (map (λ p. p.name) ps) ≡ false → bytes_eq p.name name ≡ false

@@ -8,7 +8,7 @@ use Rattle.qm_throttle.specs.Keys.{key_order, same_key, with_key}
 use Rattle.qm_throttle.specs.Steps.{Stepped, opened_by, keeping, behind, raised_among}
 use Rattle.qm_throttle.specs.Windows.{Open, window_of}
 use Rattle.qm_throttle.specs.declared.sent.Sent.{Sent}
-use Rattle.qm_throttle.specs.declared.keys.Key.{Key}
+use Rattle.qm_throttle.specs.Keys.{Key}
 use Rattle.qm_throttle.specs.declared.window.Window.{Window}
 use Rattle.qm_throttle.proofs.Orders.{IsBefore, IsInOrder, before_trans, is_in, key_back, key_equal, none_before}
 

@@ -4,7 +4,7 @@ use Rattle.std.specs.List.{AllByRecursion}
 use Rattle.std.specs.List.Sorted.{IsStrictlySortedBy}
 use Rattle.std.specs.declared.cmp.Ordering.TheVariants.{Less}
 use Rattle.qm_throttle.specs.Keys.{key_order}
-use Rattle.qm_throttle.specs.declared.keys.Key.{Key}
+use Rattle.qm_throttle.specs.Keys.{Key}
 use Rattle.qm_throttle.proofs.Orders.{IsBefore, IsInOrder}
 
 before_from : (k : Key) (keys : List Key) → AllByRecursion (λ j. key_order k j ≡ Less) keys → IsBefore k keys

@@ -15,7 +15,7 @@ use Rattle.qm_throttle.specs.Endings.{opened_again}
 use Rattle.qm_throttle.specs.Keys.{key_order, same_key}
 use Rattle.qm_throttle.specs.Steps.{window_at, opens_again, ticked}
 use Rattle.qm_throttle.specs.declared.due.Due.{Due}
-use Rattle.qm_throttle.specs.declared.keys.Key.{Key}
+use Rattle.qm_throttle.specs.Keys.{Key}
 use Rattle.qm_throttle.specs.declared.sent.Sent.{Sent}
 use Rattle.qm_throttle.specs.declared.window.Window.{Window}
 use Rattle.qm_throttle.proofs.Keeping.{due_at, tied_at, none_at}

@@ -9,7 +9,7 @@ use Rattle.qm_plan.specs.declared.events.Period.{Period}
 use Rattle.qm_plan.specs.declared.events.Raised.{Raised}
 use Rattle.qm_throttle.specs.Keys.{key_order, key_of, period_of}
 use Rattle.qm_throttle.specs.Windows.{Call, Raise, Tick, sent_of, windows_of}
-use Rattle.qm_throttle.specs.declared.keys.Key.{Key}
+use Rattle.qm_throttle.specs.Keys.{Key}
 use Rattle.qm_throttle.specs.declared.sent.Sent.{Sent}
 use Rattle.qm_throttle.specs.declared.window.Window.{Window}
 

@@ -5,7 +5,7 @@ use Rattle.std.specs.Option.{option_map, option_to_list}
 use Rattle.qm_plan.specs.declared.events.Period.{Period}
 use Rattle.qm_plan.specs.declared.events.Raised.{Raised}
 use Rattle.qm_throttle.specs.Keys.{key_of, same_key, with_key, period_of}
-use Rattle.qm_throttle.specs.declared.keys.Key.{Key}
+use Rattle.qm_throttle.specs.Keys.{Key}
 use Rattle.qm_throttle.specs.declared.sent.Sent.{Sent}
 use Rattle.qm_throttle.specs.declared.window.Window.{Window}
 

@@ -7,7 +7,7 @@ use Rattle.std.proofs.lemmas.Map.Keys.{sorted_tail}
 use Rattle.qm_throttle.specs.Deadlines.{due_order, key_comes}
 use Rattle.qm_throttle.specs.Keys.{key_order}
 use Rattle.qm_throttle.specs.declared.due.Due.{Due}
-use Rattle.qm_throttle.specs.declared.keys.Key.{Key}
+use Rattle.qm_throttle.specs.Keys.{Key}
 use Rattle.qm_throttle.proofs.Coming.{none_comes, one_comes}
 use Rattle.qm_throttle.proofs.deadlines.come_keys.Goals as goal
 

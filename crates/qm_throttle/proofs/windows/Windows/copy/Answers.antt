@@ -2,7 +2,7 @@ use Rattle.std.proofs.Common.{◌≡◌, None, ◌<◌, ◌++◌, List, ap, sym,
 use Rattle.std.specs.BTreeMap.{insert_entry}
 use Rattle.qm_throttle.specs.Keys.{key_order}
 use Rattle.qm_throttle.specs.Steps.{window_at}
-use Rattle.qm_throttle.specs.declared.keys.Key.{Key}
+use Rattle.qm_throttle.specs.Keys.{Key}
 use Rattle.qm_throttle.specs.declared.window.Window.{Window}
 use Rattle.qm_throttle.proofs.Copying.{next_of_all, one_copied, copied_lasts}
 use Rattle.qm_throttle.proofs.windows.Windows.copy.Goals as goal

@@ -4,7 +4,7 @@ use Rattle.std.specs.Map.{keys_of}
 use Rattle.qm_throttle.specs.Deadlines.{Lasts}
 use Rattle.qm_throttle.specs.Keys.{key_order}
 use Rattle.qm_throttle.specs.Steps.{window_at}
-use Rattle.qm_throttle.specs.declared.keys.Key.{Key}
+use Rattle.qm_throttle.specs.Keys.{Key}
 use Rattle.qm_throttle.proofs.windows.Windows.copy.Given as goal
 
 abbrev pub invariant-loop-key : goal.invariant-loop-key
