@@ -1,11 +1,24 @@
 -- The keys of events, and their order (this project's own rule).
-use Rattle.std.specs.Prelude.{ℕ, Bool, cond, List, [], ◌∷◌, map, codes, slice_get, Option, Some, None}
-use Rattle.std.specs.Cmp.{IsTotalOrder, then_total, Lexicographic.slice_cmp, Lexicographic.on_texts}
-use Rattle.std.specs.{Ordering.nat_cmp, Ordering.ordering_then, Ordering.match_ordering, Ordering.is_eq, Str.bytes_eq}
+use Rattle.std.specs.Prelude.{ℕ, Bool, cond, List, [], ◌∷◌, map, codes, slice_get, Option, Some, None, refl}
+use Rattle.std.specs.Cmp.{IsTotalOrder, then_total}
+use Rattle.std.specs.Coded.{Coded, code_by, coded×, coded_list, coded_ℕ}
+use Rattle.std.specs.Cmp.Lexicographic.{slice_cmp, on_texts}
+use Rattle.std.specs.Ordering.{nat_cmp, ordering_then, match_ordering, is_eq}
+use Rattle.std.specs.Str.{bytes_eq}
 use Rattle.std.specs.declared.cmp.Ordering.{Ordering}
-use Rattle.qm_json.specs.{Members.member_of, Printing.printed, Printing.array_text, declared.value.Json.Json}
+use Rattle.qm_json.specs.Members.{member_of}
+use Rattle.qm_json.specs.Printing.{printed, array_text}
+use Rattle.qm_json.specs.declared.value.Json.{Json}
 use Rattle.qm_plan.specs.declared.events.Period.{Period}
-use Rattle.qm_throttle.specs.declared.keys.Key.{Key}
+
+-- what windows are told apart by: the event's name, and the printed values of its key members
+pub record Key : Type 0 where
+  pub name : List ℕ
+  pub printed : List ℕ
+
+-- a key is stored as the pair of its fields
+abbrev pub key_code : Coded Key
+key_code = code_by (List ℕ × List ℕ) (coded× (coded_list coded_ℕ) (coded_list coded_ℕ)) (λ k. (k.name, k.printed)) (λ p. record { name = p.0; printed = p.1 }) (λ _. refl)
 
 -- by event name, and then by the printed key, both by bytes
 abbrev pub key_order : Key → Key → Ordering

@@ -3,23 +3,23 @@ ghost use Rattle.std.specs.BTreeSet.{contains};
 ghost use Rattle.qm_throttle.specs.Keys.{key_order};
 ghost use Rattle.qm_throttle.specs.Deadlines.{has_due, is_listed, key_comes, SomeCome};
 ghost use Rattle.qm_throttle.specs.declared.due.Due.{Due};
-ghost use Rattle.qm_throttle.specs.declared.keys.Key.{Key};
+ghost use Rattle.qm_throttle.specs.Keys.{Key};
 
 use crate::due::Due;
-use crate::keys::SharedKey;
+use crate::keys::WindowKey;
 use qm_base::NoMemory;
 use std::alloc::Global;
 use std::collections::BTreeSet;
 
 #[tactic(auto, using(crate::proofs::Dues::not_listed_before))]
-fn put_each(deadlines: &mut BTreeSet<Due>, nexts: &[Due]) -> Result<(), NoMemory>
+fn put_each(alloc: Global, deadlines: &mut BTreeSet<Due>, nexts: &[Due]) -> Result<(), NoMemory>
     ensures ok { OnOk result ((due : Due) →
         has_due deadlines.new.keys due ≡ (is_listed nexts.now due || has_due deadlines.old.keys due)) }
     ensures others { (due : Due) → is_listed nexts.now due ≡ false →
         has_due deadlines.new.keys due ≡ has_due deadlines.old.keys due }
 {
     for due in nexts {
-        let due = due.again()?;
+        let due = due.copy(alloc)?;
         if let Err(_) = deadlines.insert(due) {
             return Err(NoMemory);
         }
@@ -37,14 +37,18 @@ fn take_each(deadlines: &mut BTreeSet<Due>, nexts: &[Due])
 }
 
 /// Puts deadlines in that are not there. An error leaves those that were there before.
-pub(crate) fn put_all(deadlines: &mut BTreeSet<Due>, nexts: &[Due]) -> Result<(), NoMemory>
+pub(crate) fn put_all(
+    alloc: Global,
+    deadlines: &mut BTreeSet<Due>,
+    nexts: &[Due],
+) -> Result<(), NoMemory>
     requires { (due : Due) → is_listed nexts.now due ≡ true → has_due deadlines.old.keys due ≡ false }
     ensures ok { OnOk result ((due : Due) →
         has_due deadlines.new.keys due ≡ (is_listed nexts.now due || has_due deadlines.old.keys due)) }
     ensures err { OnErr result ((due : Due) →
         has_due deadlines.new.keys due ≡ has_due deadlines.old.keys due) }
 {
-    match put_each(deadlines, nexts) {
+    match put_each(alloc, deadlines, nexts) {
         Ok(()) => Ok(()),
         Err(error) => {
             take_each(deadlines, nexts);
@@ -79,7 +83,7 @@ pub(crate) fn come_keys(
     alloc: Global,
     deadlines: &BTreeSet<Due>,
     moment: u64,
-) -> Result<BTreeSet<SharedKey>, NoMemory>
+) -> Result<BTreeSet<WindowKey>, NoMemory>
     ensures { IfOk result (λ keys. (key : Key) →
         contains key_order keys key ≡ key_comes moment deadlines.now.keys key) }
 {
@@ -88,7 +92,7 @@ pub(crate) fn come_keys(
         if due.deadline > moment as u128 {
             return Ok(keys);
         }
-        let key = due.key.again()?;
+        let key = due.key.copy(alloc)?;
         if let Err(_) = keys.insert(key) {
             return Err(NoMemory);
         }

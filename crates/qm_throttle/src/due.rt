@@ -4,23 +4,24 @@ ghost use Rattle.std.specs.Cmp.{eq_by_cmp_equiv, partial_order_from_agreeing_tot
 ghost use Rattle.std.specs.Ordering.{eq_by_cmp};
 ghost use Rattle.qm_throttle.specs.Deadlines.{due_order, due_total};
 
-use crate::keys::SharedKey;
+use crate::keys::WindowKey;
 use qm_base::NoMemory;
+use std::alloc::Global;
 use std::cmp::Ordering;
 
 /// When a window ends: its deadline, in microseconds, and its key.
 #[derive(Drop)]
 pub(crate) struct Due {
     pub deadline: u128,
-    pub key: SharedKey,
+    pub key: WindowKey,
 }
 
 impl Due {
     /// An equal one.
-    pub(crate) fn again(&self) -> Result<Due, NoMemory>
-        ensures { IfOk result (λ due. due ≡ self.now) }
+    pub(crate) fn copy(&self, alloc: Global) -> Result<Due, NoMemory>
+        ensures { IfOk result (λ copied. copied ≡ self.now) }
     {
-        let key = self.key.again()?;
+        let key = self.key.copy(alloc)?;
         Ok(Due {
             deadline: self.deadline,
             key,

@@ -8,9 +8,9 @@ ghost use Rattle.qm_throttle.specs.Keys.{key_order};
 ghost use Rattle.qm_throttle.specs.Steps.{window_at, ticked, sent_at};
 ghost use Rattle.qm_throttle.specs.Deadlines.{has_come};
 ghost use Rattle.qm_throttle.specs.Endings.{ended_at, kept_of, opened_at};
-ghost use Rattle.qm_throttle.specs.declared.keys.Key.{Key};
+ghost use Rattle.qm_throttle.specs.Keys.{Key};
 
-use crate::keys::SharedKey;
+use crate::keys::WindowKey;
 use crate::sent::Sent;
 use crate::window::Window;
 use qm_base::NoMemory;
@@ -29,7 +29,7 @@ pub(crate) fn reserved(alloc: Global, places: usize) -> Result<Vec<Sent>, NoMemo
 }
 
 /// Opens the window of a key again, and gives the event that was kept in it.
-fn open_again(map: &mut BTreeMap<SharedKey, Window>, key: &SharedKey, moment: u64) -> Option<Sent>
+fn open_again(map: &mut BTreeMap<WindowKey, Window>, key: &WindowKey, moment: u64) -> Option<Sent>
     ensures sent { option_to_list result ≡ kept_of (window_at key.now map.old.entries) }
     ensures windows { map.new.entries ≡ opened_at moment key.now map.old.entries }
 {
@@ -39,7 +39,7 @@ fn open_again(map: &mut BTreeMap<SharedKey, Window>, key: &SharedKey, moment: u6
     }
 }
 
-fn close(map: &mut BTreeMap<SharedKey, Window>, key: &SharedKey)
+fn close(map: &mut BTreeMap<WindowKey, Window>, key: &WindowKey)
     ensures { map.new.entries ≡ remove_entry (is_at (key_order key.now)) map.old.entries }
 {
     let _ = map.remove(key);
@@ -47,7 +47,7 @@ fn close(map: &mut BTreeMap<SharedKey, Window>, key: &SharedKey)
 
 /// Ends the window of a key, and gives the event that was kept in it.
 #[tactic(auto, using(crate::proofs::Ending::closed, crate::proofs::Ending::reopens))]
-fn end(map: &mut BTreeMap<SharedKey, Window>, key: &SharedKey, moment: u64) -> Option<Sent>
+fn end(map: &mut BTreeMap<WindowKey, Window>, key: &WindowKey, moment: u64) -> Option<Sent>
     ensures sent { option_to_list result ≡ kept_of (window_at key.now map.old.entries) }
     ensures windows { map.new.entries ≡ ended_at moment key.now map.old.entries }
 {
@@ -61,8 +61,8 @@ fn end(map: &mut BTreeMap<SharedKey, Window>, key: &SharedKey, moment: u64) -> O
 /// Ends the windows of some keys, those that end at the moment, and gives the events that were
 /// kept in them, for which there are places.
 pub(crate) fn end_all(
-    map: &mut BTreeMap<SharedKey, Window>,
-    ended: &BTreeSet<SharedKey>,
+    map: &mut BTreeMap<WindowKey, Window>,
+    ended: &BTreeSet<WindowKey>,
     moment: u64,
     sent: Vec<Sent>,
 ) -> Vec<Sent>

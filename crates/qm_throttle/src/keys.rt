@@ -5,7 +5,7 @@ ghost use Rattle.std.specs.Ordering.{eq_by_cmp};
 ghost use Rattle.qm_json.specs.Printing.{placed, joined};
 ghost use Rattle.qm_throttle.specs.Keys.{key_order, key_total, key_by, printed_key, value_text};
 
-use qm_base::{NoMemory, Shared, Text};
+use qm_base::{NoMemory, Text};
 use qm_json::Json;
 use qm_plan::Period;
 use std::alloc::Global;
@@ -13,64 +13,67 @@ use std::cmp::Ordering;
 use std::marker::Model;
 
 /// What windows are told apart by: the event's name, and the printed values of its key members.
-#[derive(Debug, Drop)]
-pub struct Key {
-    /// The event's name.
-    pub name: Text,
-    /// The array of the values of the key members, with `null` for an absent one.
-    pub printed: Text,
-}
-
-impl Key {
-    /// The order by name and then by the printed key, both by bytes.
-    fn order(&self, other: &Key) -> Ordering
-        ensures { result ≡ key_order self.now other.now }
-    {
-        match self.name.as_slice().cmp(other.name.as_slice()) {
-            Ordering::Less => Ordering::Less,
-            Ordering::Equal => self.printed.as_slice().cmp(other.printed.as_slice()),
-            Ordering::Greater => Ordering::Greater,
-        }
-    }
-}
-
-/// A key with several owners, which contracts see as the key alone.
+/// Both stand in one text, so that it takes one look to compare two keys.
 #[derive(Drop)]
-pub(crate) struct SharedKey {
-    shared: Shared<Key>,
+pub(crate) struct WindowKey {
+    bytes: Text,
+    name_len: usize,
 }
 
-impl Model for SharedKey {
-    ghost use Rattle.qm_throttle.specs.declared.keys.Key.{Key};
+impl Model for WindowKey {
+    ghost use Rattle.std.specs.Prelude.{◌≤◌, length, take, drop};
+    ghost use Rattle.qm_throttle.specs.Keys.{Key, key_code};
 
     ghost Value = { Key };
 
-    ghost view = { λ k. k.shared };
+    ghost coded = { key_code };
+
+    ghost view = { λ k. record { name = take k.name_len k.bytes; printed = drop k.name_len k.bytes } };
+
+    ghost invariant = { λ k. k.name_len ≤ length k.bytes };
 }
 
-impl SharedKey {
-    pub(crate) fn new(alloc: Global, key: Key) -> Result<SharedKey, NoMemory>
-        ensures { IfOk result (λ shared. shared ≡ key) }
+impl WindowKey {
+    fn name(&self) -> &[u8]
+        ensures { result.now ≡ self.now.name }
     {
-        let shared = Shared::new(alloc, key)?;
-        Ok(SharedKey { shared })
+        &self.bytes.as_slice()[..self.name_len]
     }
 
-    /// One more owner.
-    pub(crate) fn again(&self) -> Result<SharedKey, NoMemory>
-        ensures { IfOk result (λ shared. shared ≡ self.now) }
+    fn printed(&self) -> &[u8]
+        ensures { result.now ≡ self.now.printed }
     {
-        let shared = self.shared.again()?;
-        Ok(SharedKey { shared })
+        &self.bytes.as_slice()[self.name_len..]
+    }
+
+    /// An equal key.
+    pub(crate) fn copy(&self, alloc: Global) -> Result<WindowKey, NoMemory>
+        ensures { IfOk result (λ copied. copied ≡ self.now) }
+    {
+        let bytes = self.bytes.copy(alloc)?;
+        Ok(WindowKey {
+            bytes,
+            name_len: self.name_len,
+        })
+    }
+
+    /// The key of an event of this period with this payload.
+    pub(crate) fn of(alloc: Global, period: &Period, payload: &Json) -> Result<WindowKey, NoMemory>
+        ensures { IfOk result (λ key. key ≡ key_by (Some period.now) payload.now) }
+    {
+        let mut bytes = period.name.copy(alloc)?;
+        let name_len = bytes.len();
+        write_key(period.key.as_slice(), payload, &mut bytes)?;
+        Ok(WindowKey { bytes, name_len })
     }
 }
 
-impl PartialEq for SharedKey {
+impl PartialEq for WindowKey {
     ghost eq = { eq_by_cmp key_order };
 
     ghost laws = { Cmp.partial_equiv_from_equiv (eq_by_cmp_equiv key_total) };
 
-    fn eq(&self, other: &SharedKey) -> bool {
+    fn eq(&self, other: &WindowKey) -> bool {
         match self.cmp(other) {
             Ordering::Less => false,
             Ordering::Equal => true,
@@ -79,21 +82,21 @@ impl PartialEq for SharedKey {
     }
 }
 
-impl Eq for SharedKey {
+impl Eq for WindowKey {
     ghost laws = { eq_by_cmp_equiv key_total };
 }
 
-impl PartialOrd for SharedKey {
+impl PartialOrd for WindowKey {
     ghost partial_cmp = { λ x y. Some (key_order x y) };
 
     ghost laws = { partial_order_from_agreeing_total key_order key_total (λ x y. refl) (λ x y. refl) };
 
-    fn partial_cmp(&self, other: &SharedKey) -> Option<Ordering> {
+    fn partial_cmp(&self, other: &WindowKey) -> Option<Ordering> {
         Some(self.cmp(other))
     }
 }
 
-impl Ord for SharedKey {
+impl Ord for WindowKey {
     ghost cmp = { key_order };
 
     ghost total = { key_total };
@@ -102,8 +105,12 @@ impl Ord for SharedKey {
 
     ghost matches_eq = { λ x y. refl };
 
-    fn cmp(&self, other: &SharedKey) -> Ordering {
-        self.shared.get().order(other.shared.get())
+    fn cmp(&self, other: &WindowKey) -> Ordering {
+        match self.name().cmp(other.name()) {
+            Ordering::Less => Ordering::Less,
+            Ordering::Equal => self.printed().cmp(other.printed()),
+            Ordering::Greater => Ordering::Greater,
+        }
     }
 }
 
@@ -134,21 +141,10 @@ fn write_values(payload: &Json, names: &[Text], out: &mut Text) -> Result<(), No
     Ok(())
 }
 
-fn printed_key(alloc: Global, names: &[Text], payload: &Json) -> Result<Text, NoMemory>
-    ensures { IfOk result (λ text. text ≡ printed_key names.now payload.now) }
+fn write_key(names: &[Text], payload: &Json, out: &mut Text) -> Result<(), NoMemory>
+    ensures { OnOk result (out.new ≡ out.old ++ printed_key names.now payload.now) }
 {
-    let mut out = Text::new(alloc);
     out.push(b'[')?;
-    write_values(payload, names, &mut out)?;
-    out.push(b']')?;
-    Ok(out)
-}
-
-/// The key of an event of this period with this payload.
-pub(crate) fn key_of(alloc: Global, period: &Period, payload: &Json) -> Result<Key, NoMemory>
-    ensures { IfOk result (λ key. key ≡ key_by (Some period.now) payload.now) }
-{
-    let name = period.name.copy(alloc)?;
-    let printed = printed_key(alloc, period.key.as_slice(), payload)?;
-    Ok(Key { name, printed })
+    write_values(payload, names, out)?;
+    out.push(b']')
 }

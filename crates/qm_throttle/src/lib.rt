@@ -4,7 +4,7 @@
 pub(crate) mod deadlines;
 pub(crate) mod due;
 pub(crate) mod endings;
-pub mod keys;
+pub(crate) mod keys;
 pub mod laws;
 pub(crate) mod openings;
 pub mod sent;
@@ -12,7 +12,6 @@ pub mod throttle;
 pub mod window;
 pub(crate) mod windows;
 
-pub use keys::Key;
 pub use sent::{Sent, SentList};
 pub use throttle::Throttle;
 pub use window::Window;

@@ -1,19 +1,19 @@
 ghost use Rattle.std.specs.Prelude.{◌≡◌, cond, IfErr, OnOk, OnErr};
 ghost use Rattle.std.specs.BTreeMap.{insert_entry, is_at};
 ghost use Rattle.qm_throttle.specs.Keys.{key_order};
-ghost use Rattle.qm_throttle.specs.declared.keys.Key.{Key};
+ghost use Rattle.qm_throttle.specs.Keys.{Key};
 ghost use Rattle.qm_throttle.specs.Steps.{window_at, kept_at, unkept};
 
 use crate::due::Due;
-use crate::keys::SharedKey;
+use crate::keys::WindowKey;
 use crate::sent::Sent;
 use crate::window::Window;
 use std::collections::BTreeMap;
 
 /// Keeps an event in the window of its key, and gives it back where none is open.
 pub(crate) fn keep(
-    map: &mut BTreeMap<SharedKey, Window>,
-    key: &SharedKey,
+    map: &mut BTreeMap<WindowKey, Window>,
+    key: &WindowKey,
     event: Sent,
 ) -> Option<Sent>
     ensures given { result ≡ unkept event (window_at key.now map.old.entries) }
@@ -30,8 +30,8 @@ pub(crate) fn keep(
 
 /// Puts a window in. Where there is no memory, it gives the window's end back.
 pub(crate) fn insert(
-    map: &mut BTreeMap<SharedKey, Window>,
-    key: SharedKey,
+    map: &mut BTreeMap<WindowKey, Window>,
+    key: WindowKey,
     window: Window,
 ) -> Result<(), Due>
     ensures ok { OnOk result (map.new.entries ≡ insert_entry key_order map.old.entries key window) }

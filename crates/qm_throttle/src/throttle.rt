@@ -4,7 +4,7 @@ ghost use Rattle.qm_json.specs.Cleanness.{are_distinct};
 ghost use Rattle.qm_throttle.specs.Steps.{Follows, Steps, Does, IsHeld};
 ghost use Rattle.qm_throttle.specs.Windows.{Call, Tick, event_of, raise_of, due_of};
 
-use crate::keys::key_of;
+use crate::keys::WindowKey;
 use crate::sent::{Sent, SentList};
 use crate::windows::Windows;
 use qm_base::NoMemory;
@@ -27,14 +27,13 @@ impl Model for Throttle {
     ghost use Rattle.qm_plan.specs.declared.events.Period.{Period};
     ghost use Rattle.qm_plan.specs.contracts.events.Period as period;
     ghost use Rattle.qm_throttle.specs.Steps.{Throttling};
-    ghost use Rattle.qm_throttle.specs.declared.keys.Key.{Key};
+    ghost use Rattle.qm_throttle.specs.Keys.{Key, key_code};
     ghost use Rattle.qm_throttle.specs.declared.window.Window.{Window};
-    ghost use Rattle.qm_throttle.specs.contracts.keys.Key as key;
     ghost use Rattle.qm_throttle.specs.contracts.window.Window as window;
 
     ghost Value = { Throttling };
 
-    ghost coded = { code_by (List Period × List (Key × Window)) (coded× (coded_list period.the_row.coded) (coded_list (coded× key.the_row.coded window.the_row.coded)))
+    ghost coded = { code_by (List Period × List (Key × Window)) (coded× (coded_list period.the_row.coded) (coded_list (coded× key_code window.the_row.coded)))
         (λ s. (s.periods, s.windows)) (λ p. record { periods = p.0; windows = p.1 }) (λ _. refl) };
 
     ghost view = { λ t. record { periods = t.periods; windows = t.windows } };
@@ -121,7 +120,7 @@ impl Throttle {
         if micros == 0 {
             return Ok(Some(Sent::at(raised, moment)));
         }
-        let key = key_of(alloc, period, &raised.payload)?;
+        let key = WindowKey::of(alloc, period, &raised.payload)?;
         let event = Sent::at(raised, moment);
         let sent = self.windows.raise(alloc, key, micros, event)?;
         Ok(sent)

@@ -7,12 +7,12 @@ ghost use Rattle.qm_throttle.specs.Keys.{key_order};
 ghost use Rattle.qm_throttle.specs.Steps.{window_at, kept_at, unkept, raised_among, ticked, sent_at};
 ghost use Rattle.qm_throttle.specs.Windows.{due_in};
 ghost use Rattle.qm_throttle.specs.Deadlines.{has_come, next_of, next_at};
-ghost use Rattle.qm_throttle.specs.declared.keys.Key.{Key};
+ghost use Rattle.qm_throttle.specs.Keys.{Key};
 
 use crate::deadlines::{come_keys, put_all, take_come};
 use crate::due::Due;
 use crate::endings::{end_all, reserved};
-use crate::keys::{Key, SharedKey};
+use crate::keys::WindowKey;
 use crate::openings::{insert, keep};
 use crate::sent::Sent;
 use crate::window::Window;
@@ -25,21 +25,20 @@ use std::marker::Model;
 /// see the windows in the order of their keys.
 #[derive(Drop)]
 pub(crate) struct Windows {
-    map: BTreeMap<SharedKey, Window>,
+    map: BTreeMap<WindowKey, Window>,
     deadlines: BTreeSet<Due>,
 }
 
 impl Model for Windows {
     ghost use Rattle.std.specs.Prelude.{List};
     ghost use Rattle.std.specs.Coded.{coded×, coded_list};
-    ghost use Rattle.qm_throttle.specs.declared.keys.Key.{Key};
+    ghost use Rattle.qm_throttle.specs.Keys.{Key, key_code};
     ghost use Rattle.qm_throttle.specs.declared.window.Window.{Window};
-    ghost use Rattle.qm_throttle.specs.contracts.keys.Key as key;
     ghost use Rattle.qm_throttle.specs.contracts.window.Window as window;
 
     ghost Value = { List (Key × Window) };
 
-    ghost coded = { coded_list (coded× key.the_row.coded window.the_row.coded) };
+    ghost coded = { coded_list (coded× key_code window.the_row.coded) };
 
     ghost use Rattle.qm_throttle.specs.Deadlines.{IsKept};
 
@@ -72,7 +71,7 @@ impl Windows {
 
     /// Keeps an event in the window of its key, and gives it back where none is open.
     #[tactic(auto, using(crate::proofs::Keeping::kept_keeping))]
-    fn keep(&mut self, key: &SharedKey, event: Sent) -> Option<Sent>
+    fn keep(&mut self, key: &WindowKey, event: Sent) -> Option<Sent>
         ensures given { result ≡ unkept event (window_at key.now self.old) }
         ensures kept { self.new ≡ kept_at key.now event self.old }
     {
@@ -80,7 +79,7 @@ impl Windows {
     }
 
     /// Puts a window in, whose key has none. An error leaves the windows as they were.
-    fn open(&mut self, key: SharedKey, window: Window) -> Result<(), NoMemory>
+    fn open(&mut self, alloc: Global, key: WindowKey, window: Window) -> Result<(), NoMemory>
         requires absent { window_at key self.old ≡ None }
         requires lasting { 0 < window.period }
         ensures ok { OnOk result (self.new ≡ insert_entry key_order self.old key window) }
@@ -88,7 +87,7 @@ impl Windows {
     {
         let due = Due {
             deadline: window.deadline,
-            key: key.again()?,
+            key: key.copy(alloc)?,
         };
         if let Err(_) = self.deadlines.insert(due) {
             return Err(NoMemory);
@@ -107,7 +106,7 @@ impl Windows {
     pub(crate) fn raise(
         &mut self,
         alloc: Global,
-        key: Key,
+        key: WindowKey,
         period: u64,
         event: Sent,
     ) -> Result<Option<Sent>, NoMemory>
@@ -119,7 +118,6 @@ impl Windows {
         ensures err { OnErr result (self.new ≡ self.old) }
     {
         let _ = self.map.len();
-        let key = SharedKey::new(alloc, key)?;
         let Some(event) = self.keep(&key, event) else {
             return Ok(None);
         };
@@ -128,13 +126,13 @@ impl Windows {
             deadline: event.moment as u128 + period as u128,
             kept: None,
         };
-        self.open(key, window)?;
+        self.open(alloc, key, window)?;
         Ok(Some(event))
     }
 
     /// The keys of the windows that end at a moment.
     #[tactic(auto, using(crate::proofs::Coming::comes_where_ends))]
-    fn ended(&self, alloc: Global, moment: u64) -> Result<BTreeSet<SharedKey>, NoMemory>
+    fn ended(&self, alloc: Global, moment: u64) -> Result<BTreeSet<WindowKey>, NoMemory>
         ensures { IfOk result (λ ended. (key : Key) →
             contains key_order ended key ≡ has_come moment (window_at key self.now)) }
     {
@@ -142,7 +140,7 @@ impl Windows {
     }
 
     /// The deadline of the window that opens where that of a key ends.
-    fn next(&self, moment: u64, key: &SharedKey) -> Result<Option<Due>, NoMemory>
+    fn next(&self, alloc: Global, moment: u64, key: &WindowKey) -> Result<Option<Due>, NoMemory>
         ensures { IfOk result (λ next. option_to_list next ≡ next_of moment key.now (window_at key.now self.now)) }
     {
         let Some(window) = self.map.get(key) else {
@@ -151,7 +149,7 @@ impl Windows {
         if window.kept.is_none() {
             return Ok(None);
         }
-        let key = key.again()?;
+        let key = key.copy(alloc)?;
         Ok(Some(Due {
             deadline: moment as u128 + window.period as u128,
             key,
@@ -163,13 +161,13 @@ impl Windows {
         &self,
         alloc: Global,
         moment: u64,
-        ended: &BTreeSet<SharedKey>,
+        ended: &BTreeSet<WindowKey>,
     ) -> Result<Vec<Due>, NoMemory>
         ensures { IfOk result (λ nexts. nexts.items ≡ flat_map (next_at moment self.now) ended.now.keys) }
     {
         let mut nexts = Vec::new(alloc);
         for key in ended {
-            if let Some(next) = self.next(moment, key)? {
+            if let Some(next) = self.next(alloc, moment, key)? {
                 if let Err(_) = nexts.push(next) {
                     return Err(NoMemory);
                 }
@@ -189,7 +187,7 @@ impl Windows {
         let ended = self.ended(alloc, moment)?;
         let nexts = self.nexts(alloc, moment, &ended)?;
         let sent = reserved(alloc, ended.len())?;
-        put_all(&mut self.deadlines, nexts.as_slice())?;
+        put_all(alloc, &mut self.deadlines, nexts.as_slice())?;
         take_come(&mut self.deadlines, moment);
         Ok(end_all(&mut self.map, &ended, moment, sent))
     }
@@ -200,9 +198,9 @@ impl Windows {
     {
         let mut copied = Windows::new(alloc);
         for (key, window) in &self.map {
-            let key = key.again()?;
+            let key = key.copy(alloc)?;
             let window = window.copy(alloc)?;
-            copied.open(key, window)?;
+            copied.open(alloc, key, window)?;
         }
         Ok(copied)
     }
