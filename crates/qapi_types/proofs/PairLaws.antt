@@ -1,5 +1,5 @@
 -- What holds of all elements, or of all pairs of them, found one element after the other.
-use Rattle.std.proofs.Common.{◌≡◌, ◌≤◌, ◌<◌, ◌+◌, ◌↔◌, ◌||◌, ℕ, nat_eq, nat_cmp, Bool, true, false, not, IsTrue, List, [], length, take, get_or, refl, sym, ap, ◌∙◌, subst, arith}
+use Rattle.std.proofs.Common.{◌≡◌, ◌≤◌, ◌<◌, ◌+◌, ◌↔◌, ℕ, nat_eq, nat_cmp, Bool, true, false, not, IsTrue, List, [], length, take, get_or, refl, sym, ap, ◌∙◌, subst, arith}
 use Rattle.std.specs.BTreeMap.{is_at}
 use Rattle.std.specs.BTreeSet as sorted
 use Rattle.std.specs.BTreeSet.{BTreeSet, Updates}

@@ -1,5 +1,5 @@
 -- The names of good parts differ, so that tables can hold them.
-use Rattle.std.proofs.Common.{◌≡◌, ◌≤◌, ◌<◌, ◌+◌, ◌^◌, ◌++◌, ℕ, List, [], map, length, get_or, sym, ap, ◌∙◌, subst, arith}
+use Rattle.std.proofs.Common.{◌≡◌, ℕ, List, map, length, get_or, sym, subst, arith}
 use Rattle.std.specs.List.{All}
 use Rattle.std.proofs.lemmas.List.{length-map, get_or_default}
 use Rattle.qapi_types.specs.declared.kind.Kind.{Kind}
@@ -7,11 +7,11 @@ use Rattle.qapi_types.specs.declared.kind.Kind.TheVariants as kinds
 use Rattle.qapi_types.specs.declared.kind.MemberDef.{MemberDef}
 use Rattle.qapi_types.specs.declared.kind.ValueDef.{ValueDef}
 use Rattle.qapi_types.specs.declared.parts.Parts.{Parts}
-use Rattle.qapi_types.specs.Choices.{times, names_of, AreApart, stays}
+use Rattle.qapi_types.specs.Choices.{names_of, AreApart, stays}
 use Rattle.qapi_types.specs.Goodness.{IsShort, IsGood}
 use Rattle.qapi_types.specs.Lookups.{command_names, event_names}
 use Rattle.qapi_types.specs.Sets.{IsNamable}
-use Rattle.qapi_types.specs.Types.{kind_of, members_of, values_of, member_names, value_names}
+use Rattle.qapi_types.specs.Types.{member_names, value_names}
 use Rattle.qapi_types.proofs.ChoiceLaws.{times-append}
 use Rattle.qapi_types.proofs.FaultLaws.{names-at}
 

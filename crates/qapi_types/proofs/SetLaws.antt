@@ -1,6 +1,5 @@
 -- Sets of names that are gathered one after the other.
-use Rattle.std.proofs.Common.{◌≡◌, ◌≤◌, ◌<◌, ◌+◌, ◌||◌, ◌↔◌, ℕ, Bool, true, false, not, IsTrue, Option, Some, None, is_some, List, [], ◌∷◌, ◌++◌, map, take, drop, get_or, length, suc, refl, sym, ap, ◌∙◌, subst, inl, inr, arith, bytes_eq}
-use Rattle.std.specs.List.{list_any}
+use Rattle.std.proofs.Common.{◌≡◌, ◌≤◌, ◌<◌, ◌+◌, ◌||◌, ◌↔◌, ℕ, Bool, true, false, not, IsTrue, Option, Some, None, is_some, List, [], ◌∷◌, ◌++◌, map, take, drop, get_or, length, suc, refl, sym, ap, ◌∙◌, subst, arith, bytes_eq}
 use Rattle.std.proofs.Math.Seq.{split_at}
 use Rattle.std.proofs.lemmas.List.{map_more, take_all}
 use Rattle.std.proofs.lemmas.List.Folds.{list_any-append}

@@ -1,5 +1,5 @@
 -- Tables of names, seen through what holds them.
-use Rattle.std.proofs.Common.{◌≡◌, ◌+◌, ◌||◌, ℕ, Bool, not, true, false, cond, List, [], ◌∷◌, ◌++◌, map, length, Option, Some, None, position, nat_lt, Result, Ok, Err, OnOk, take, get_or, ◌<◌, refl, ap, sym, subst, ◌∙◌}
+use Rattle.std.proofs.Common.{◌≡◌, ◌+◌, ℕ, Bool, not, true, false, cond, List, [], ◌∷◌, ◌++◌, map, length, Option, position, Result, Ok, Err, OnOk, take, get_or, ◌<◌, refl, ap, sym, subst, ◌∙◌}
 use Rattle.std.specs.List.{list_any, position_or_len}
 use Rattle.std.specs.Prelude.{if◌then◌else◌}
 use Rattle.std.specs.Str.{bytes_eq}
