@@ -2,11 +2,17 @@
 -- kinds of alternatives are this project's own rule). Each condition is a field of the last record.
 use Rattle.std.specs.Prelude.{◌≡◌, ◌<◌, ◌+◌, ◌^◌, ⊤, ℕ, true, false, List, [], ◌∷◌, ◌++◌, map, length, IfSome, IsSome}
 use Rattle.std.specs.List.{All, AllPairs}
-use Rattle.qapi_types.specs.declared.{kind.Branch.Branch, kind.Kind.Kind, kind.MemberDef.MemberDef, parts.ArgType.ArgType}
+use Rattle.qapi_types.specs.declared.kind.Branch.{Branch}
+use Rattle.qapi_types.specs.declared.kind.Kind.{Kind}
 use Rattle.qapi_types.specs.declared.kind.Kind.TheVariants as kinds
+use Rattle.qapi_types.specs.declared.kind.MemberDef.{MemberDef}
+use Rattle.qapi_types.specs.declared.parts.ArgType.{ArgType}
 use Rattle.qapi_types.specs.declared.parts.ArgType.TheVariants as args
-use Rattle.qapi_types.specs.declared.parts.{CommandDef.CommandDef, EventDef.EventDef, Parts.Parts}
-use Rattle.qapi_types.specs.{Chains.NoneOnCycle, Choices.AreApart, Choices.AllApart, Choices.Table, Choices.table_of}
+use Rattle.qapi_types.specs.declared.parts.CommandDef.{CommandDef}
+use Rattle.qapi_types.specs.declared.parts.EventDef.{EventDef}
+use Rattle.qapi_types.specs.declared.parts.Parts.{Parts}
+use Rattle.qapi_types.specs.Chains.{NoneOnCycle}
+use Rattle.qapi_types.specs.Choices.{AreApart, AllApart, Table, table_of}
 use Rattle.qapi_types.specs.Lookups.{command_names, event_names}
 use Rattle.qapi_types.specs.Types.{kind_of, is_object, is_enum, is_array, members_of, branches_of, values_of, member_names, value_names, branch_types, tag_position, tag_member, tag_values, json_kind_of}
 
@@ -52,9 +58,16 @@ definition_names p = command_names p ++ event_names p
 abbrev pub HasApartValues : Kind → Type 0
 HasApartValues kind = AreApart (value_names kind)
 
--- each branch's type is an object type, and no value has two branches
+-- each branch's type is an object type
+abbrev pub AreObjects : List Kind → List Branch → Type 0
+AreObjects table branches = All (λ (b : Branch). is_object (kind_of table b.type_id) ≡ true) branches
+
+-- no value has two branches
+abbrev pub HaveOwnValues : List Branch → Type 0
+HaveOwnValues branches = AllPairs (λ (b c : Branch). b.value ≡ c.value → ⊥) branches
+
 abbrev pub HasBranches : List Kind → Kind → Type 0
-HasBranches table kind = All (λ (b : Branch). is_object (kind_of table b.type_id) ≡ true) (branches_of kind) × AllPairs (λ (b c : Branch). b.value ≡ c.value → ⊥) (branches_of kind)
+HasBranches table kind = AreObjects table (branches_of kind) × HaveOwnValues (branches_of kind)
 
 -- the tag is a mandatory member of an enum type
 abbrev pub HasTag : List Kind → Kind → Type 0
@@ -82,11 +95,11 @@ pub data AreDealt : ℕ → List ℕ → List ℕ → Type 0 where
   first : {n : ℕ} {xs ys : List ℕ} → AreDealt (n + 1) xs ys → AreDealt n (n ∷ xs) ys
   second : {n : ℕ} {xs ys : List ℕ} → AreDealt (n + 1) xs ys → AreDealt n xs (n ∷ ys)
 
-abbrev pub command_places : Parts → List ℕ
-command_places p = map (λ (c : CommandDef). c.place) p.commands
+abbrev pub command_places : List CommandDef → List ℕ
+command_places commands = map (λ (c : CommandDef). c.place) commands
 
-abbrev pub event_places : Parts → List ℕ
-event_places p = map (λ (e : EventDef). e.place) p.events
+abbrev pub event_places : List EventDef → List ℕ
+event_places events = map (λ (e : EventDef). e.place) events
 
 pub record IsGood (p : Parts) : Type 0 where
   pub counts : IsCounted p
@@ -101,4 +114,4 @@ pub record IsGood (p : Parts) : Type 0 where
   pub cycles : NoneOnCycle (map branch_types p.kinds) (length p.kinds)
   pub elements : All (HasPlainElement p.kinds) p.kinds
   pub alternatives : All (HasApartAlternatives p.kinds) p.kinds
-  pub places : AreDealt 0 (command_places p) (event_places p)
+  pub places : AreDealt 0 (command_places p.commands) (event_places p.events)

@@ -1,9 +1,12 @@
 -- Looking names up.
-use Rattle.std.specs.Prelude.{ℕ, List, [], ◌∷◌, ◌++◌, map, Option, cond, position}
+use Rattle.std.specs.Prelude.{◌≡◌, ℕ, List, [], ◌∷◌, ◌++◌, map, Option, cond, position}
 use Rattle.std.specs.Str.{bytes_eq}
 use Rattle.qm_base.specs.Names.{is_named}
-use Rattle.qapi_types.specs.declared.{kind.Kind.Kind, parts.CommandDef.CommandDef, parts.EventDef.EventDef, parts.Parts.Parts}
+use Rattle.qapi_types.specs.declared.kind.Kind.{Kind}
 use Rattle.qapi_types.specs.declared.kind.Kind.TheVariants as kinds
+use Rattle.qapi_types.specs.declared.parts.CommandDef.{CommandDef}
+use Rattle.qapi_types.specs.declared.parts.EventDef.{EventDef}
+use Rattle.qapi_types.specs.declared.parts.Parts.{Parts}
 use Rattle.qapi_types.specs.Types.{member_names, value_names}
 
 -- the place of the first of the names that is the name, or none
@@ -26,3 +29,7 @@ abbrev pub names_in : Kind → List (List ℕ)
 names_in (kinds.Object def) = member_names (kinds.Object def)
 names_in (kinds.Enum values features) = value_names (kinds.Enum values features)
 names_in kind = []
+
+-- the tables hold the names of the commands, of the events, and of each type's members or values
+abbrev pub AreIndexed : Parts → List (List ℕ) → List (List ℕ) → List (List (List ℕ)) → Type 0
+AreIndexed p commands events tables = (commands ≡ command_names p) × (events ≡ event_names p) × (tables ≡ map names_in p.kinds)

@@ -1,8 +1,7 @@
-ghost use Rattle.std.specs.Prelude.{◌≡◌, ◌<◌, ◌↔◌, map, length, IfOk, IsTrue, option_map};
-ghost use Rattle.qapi_types.specs.Chains.{IsInside, NoneOnCycle};
-ghost use Rattle.qapi_types.specs.Choices.{AllApart};
+ghost use Rattle.std.specs.Prelude.{◌≡◌, ◌<◌, ◌↔◌, map, length, IfOk, IsTrue};
+ghost use Rattle.qapi_types.specs.Chains.{IsInside};
 ghost use Rattle.qapi_types.specs.Goodness.{choices_of};
-ghost use Rattle.qapi_types.specs.Sets.{has_member_in, MeetsMarked, ClashesMarked, HasFaults};
+ghost use Rattle.qapi_types.specs.Sets.{has_member_in, MeetsMarked, ClashesMarked, HasFaults, HasGoodChoices};
 ghost use Rattle.qapi_types.specs.Types.{branch_types};
 
 use crate::graph::{branch_graph, reached, references_of};
@@ -84,8 +83,7 @@ pub fn faults_of(
 /// Whether no type is on a cycle of branches, and no name stands twice along any choice of them.
 pub fn choices_are_good(alloc: Global, kinds: &[Kind]) -> Result<bool, NoMemory>
     requires { IsInside (map branch_types kinds.now) }
-    ensures { IfOk result (λ yes. IsTrue yes ↔
-        (NoneOnCycle (map branch_types kinds.now) (length kinds.now) × AllApart (choices_of kinds.now))) }
+    ensures { IfOk result (λ yes. IsTrue yes ↔ HasGoodChoices kinds.now) }
 {
     let graph = branch_graph(alloc, kinds)?;
     for number in 0..kinds.len() {

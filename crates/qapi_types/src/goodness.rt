@@ -17,7 +17,8 @@ fn add_names_of_events<'a>(
     names: &mut GrowingList<&'a [u8]>,
     events: &'a [EventDef],
 ) -> Result<(), NoMemory>
-    ensures { OnOk result (map (λ k. k.now) names.new ≡ map (λ k. k.now) names.old ++ map (λ e. e.name) events.now) }
+    ensures { OnOk result
+        (map (λ k. k.now) names.new ≡ map (λ k. k.now) names.old ++ map (λ e. e.name) events.now) }
 {
     for event in events {
         names.push(event.name.as_slice())?;

@@ -1,4 +1,4 @@
-ghost use Rattle.std.specs.Prelude.{◌≡◌, ◌<◌, ℕ, [], ◌∷◌, ◌++◌, length, map, IfOk, OnOk, replicate, false};
+ghost use Rattle.std.specs.Prelude.{◌≡◌, ◌<◌, [], ◌∷◌, length, map, IfOk, OnOk, replicate, false};
 ghost use Rattle.std.specs.List.{All};
 ghost use Rattle.qapi_types.specs.Chains.{IsInside, Spreads, spread_of, row_of, IsReachedFrom};
 ghost use Rattle.qapi_types.specs.Types.{branch_types};

@@ -1,5 +1,6 @@
 ghost use Rattle.std.specs.Prelude.{◌≡◌};
-ghost use Rattle.qapi_types.specs.Types.{json_kind_of, members_of, branches_of, values_of, tag_position};
+ghost use Rattle.qapi_types.specs.Types.{json_kind_of, members_of, branches_of, values_of};
+ghost use Rattle.qapi_types.specs.Types.{tag_position};
 
 use qm_base::{GrowingList, Text};
 

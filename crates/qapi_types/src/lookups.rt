@@ -1,5 +1,6 @@
 ghost use Rattle.std.specs.Prelude.{◌≡◌, ◌<◌, length, option_copied};
-ghost use Rattle.qapi_types.specs.Types.{kind_of, is_object, is_enum, is_array, json_kind_of, values_of, tag_member as tag_member_of, tag_values as tag_values_of};
+ghost use Rattle.qapi_types.specs.Types.{kind_of, is_object, is_enum, is_array, json_kind_of};
+ghost use Rattle.qapi_types.specs.Types.{values_of, tag_member as member_of_tag, tag_values as values_of_tag};
 
 use crate::kind::{JsonKind, Kind, MemberDef, ValueDef};
 
@@ -63,7 +64,7 @@ pub fn values_at(kinds: &[Kind], id: u32) -> &[ValueDef]
 
 /// The tag of a union.
 pub fn tag_member(kind: &Kind) -> Option<&MemberDef>
-    ensures { option_copied result ≡ tag_member_of kind.now }
+    ensures { option_copied result ≡ member_of_tag kind.now }
 {
     match kind.tag() {
         Some(position) => kind.members().get(position as usize),
@@ -73,7 +74,7 @@ pub fn tag_member(kind: &Kind) -> Option<&MemberDef>
 
 /// The values of a union's tag; none of any other type.
 pub fn tag_values<'a>(kinds: &'a [Kind], kind: &Kind) -> &'a [ValueDef]
-    ensures { result.now ≡ tag_values_of kinds.now kind.now }
+    ensures { result.now ≡ values_of_tag kinds.now kind.now }
 {
     match tag_member(kind) {
         Some(member) => values_at(kinds, member.type_id),

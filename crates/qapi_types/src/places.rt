@@ -1,11 +1,11 @@
 ghost use Rattle.std.specs.Prelude.{◌≡◌, ◌+◌, ◌<◌, ◌^◌, ◌↔◌, IsTrue, length, map};
-ghost use Rattle.qapi_types.specs.Goodness.{AreDealt};
+ghost use Rattle.qapi_types.specs.Goodness.{AreDealt, command_places, event_places};
 ghost use Rattle.qapi_types.specs.Sets.{is_at};
 
 use crate::parts::{CommandDef, EventDef};
 
 fn command_is_at(commands: &[CommandDef], index: usize, place: usize) -> bool
-    ensures { result ≡ is_at place (map (λ c. c.place) commands.now) index }
+    ensures { result ≡ is_at place (command_places commands.now) index }
 {
     match commands.get(index) {
         Some(command) => command.place as usize == place,
@@ -14,7 +14,7 @@ fn command_is_at(commands: &[CommandDef], index: usize, place: usize) -> bool
 }
 
 fn event_is_at(events: &[EventDef], index: usize, place: usize) -> bool
-    ensures { result ≡ is_at place (map (λ e. e.place) events.now) index }
+    ensures { result ≡ is_at place (event_places events.now) index }
 {
     match events.get(index) {
         Some(event) => event.place as usize == place,
@@ -26,7 +26,7 @@ fn event_is_at(events: &[EventDef], index: usize, place: usize) -> bool
 /// along each of the lists.
 pub fn are_placed(commands: &[CommandDef], events: &[EventDef]) -> bool
     requires { length commands.now + length events.now < 2 ^ 32 }
-    ensures { IsTrue result ↔ AreDealt 0 (map (λ c. c.place) commands.now) (map (λ e. e.place) events.now) }
+    ensures { IsTrue result ↔ AreDealt 0 (command_places commands.now) (event_places events.now) }
 {
     let mut first = 0;
     let mut second = 0;

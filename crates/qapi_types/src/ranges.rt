@@ -1,6 +1,7 @@
 ghost use Rattle.std.specs.Prelude.{◌≡◌, ◌<◌, ◌↔◌, IsTrue, length};
 ghost use Rattle.std.specs.List.{All};
-ghost use Rattle.qapi_types.specs.Goodness.{IsShort, IsCounted, RefersBelow, TakesBelow, CommandBelow, HasPositions, IsInRange};
+ghost use Rattle.qapi_types.specs.Goodness.{IsShort, IsCounted, RefersBelow, TakesBelow};
+ghost use Rattle.qapi_types.specs.Goodness.{CommandBelow, HasPositions, IsInRange};
 
 use crate::kind::{Branch, Kind, MemberDef};
 use crate::lookups::tag_values;

@@ -1,6 +1,6 @@
-ghost use Rattle.std.specs.Prelude.{◌≡◌, ◌<◌, length, map, IfOk, Some, slice_get};
+ghost use Rattle.std.specs.Prelude.{◌≡◌, ◌<◌, length, IfOk, Some, slice_get};
 ghost use Rattle.qapi_types.specs.Goodness.{IsGood};
-ghost use Rattle.qapi_types.specs.Lookups.{place_of, command_names, event_names, names_in};
+ghost use Rattle.qapi_types.specs.Lookups.{place_of, command_names, event_names};
 ghost use Rattle.qapi_types.specs.Types.{kind_of, member_names, value_names};
 
 use crate::kind::Kind;
@@ -23,10 +23,9 @@ pub struct Schema {
 }
 
 impl Model for Schema {
-    ghost use Rattle.std.specs.Prelude.{◌≡◌, map};
     ghost use Rattle.qapi_types.specs.declared.parts.Parts.{Parts};
     ghost use Rattle.qapi_types.specs.Goodness.{IsGood};
-    ghost use Rattle.qapi_types.specs.Lookups.{command_names, event_names, names_in};
+    ghost use Rattle.qapi_types.specs.Lookups.{AreIndexed};
     ghost use Rattle.qapi_types.specs.contracts.parts.Parts as inner;
 
     ghost Value = { Parts };
@@ -35,7 +34,7 @@ impl Model for Schema {
 
     ghost view = { λ s. s.parts };
 
-    ghost invariant = { λ s. IsGood s.parts × (s.commands ≡ command_names s.parts) × (s.events ≡ event_names s.parts) × (s.tables.items ≡ map names_in s.parts.kinds) };
+    ghost invariant = { λ s. IsGood s.parts × AreIndexed s.parts s.commands s.events s.tables.items };
 }
 
 impl Schema {

@@ -1,7 +1,8 @@
 ghost use Rattle.std.specs.Prelude.{◌≡◌, ◌↔◌, IfOk, IsTrue, true, Some};
-ghost use Rattle.std.specs.List.{All, AllPairs};
-ghost use Rattle.qapi_types.specs.Goodness.{HasBranches, HasTag, HasPlainElement, HasApartAlternatives, AreToldApart};
-ghost use Rattle.qapi_types.specs.Types.{kind_of, is_object, json_kind_of};
+ghost use Rattle.std.specs.List.{All};
+ghost use Rattle.qapi_types.specs.Goodness.{AreObjects, HaveOwnValues, HasBranches, HasTag};
+ghost use Rattle.qapi_types.specs.Goodness.{HasPlainElement, HasApartAlternatives, AreToldApart};
+ghost use Rattle.qapi_types.specs.Types.{kind_of, json_kind_of};
 ghost use Rattle.qapi_types.specs.Sets.{IsNewKind};
 
 use crate::kind::{Branch, JsonKind, Kind};
@@ -12,7 +13,7 @@ use std::collections::BTreeSet;
 
 /// Whether the branches are of object types.
 fn are_objects(kinds: &[Kind], branches: &[Branch]) -> bool
-    ensures { IsTrue result ↔ All (λ b. is_object (kind_of kinds.now b.type_id) ≡ true) branches.now }
+    ensures { IsTrue result ↔ AreObjects kinds.now branches.now }
 {
     branches
         .iter()
@@ -21,7 +22,7 @@ fn are_objects(kinds: &[Kind], branches: &[Branch]) -> bool
 
 /// Whether the branches are of different values.
 fn have_own_values(alloc: Global, branches: &[Branch]) -> Result<bool, NoMemory>
-    ensures { IfOk result (λ yes. IsTrue yes ↔ AllPairs (λ b c. b.value ≡ c.value → ⊥) branches.now) }
+    ensures { IfOk result (λ yes. IsTrue yes ↔ HaveOwnValues branches.now) }
 {
     let mut values = BTreeSet::new(alloc);
     for branch in branches {

@@ -1,4 +1,4 @@
-use Rattle.std.proofs.Common.{arith, rules}
+use Rattle.std.proofs.Common.{arith}
 use Rattle.qapi_types.proofs.FaultLaws.{bad_cycle, bad_clash, good_types}
 use Rattle.qapi_types.proofs.choices.choices_are_good.Goals as goal
 use Rattle.qapi_types.proofs.choices.choices_are_good.Goals.{then-faults-via-then-faults, then-faults-via-else-faults+then-faults-2}

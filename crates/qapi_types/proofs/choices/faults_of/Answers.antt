@@ -1,4 +1,4 @@
-use Rattle.std.proofs.Common.{map, ap, ◌∙◌, rules, arith}
+use Rattle.std.proofs.Common.{map, ap, ◌∙◌, rules}
 use Rattle.qapi_types.proofs.FaultLaws.{faults_alone, faults_led}
 use Rattle.qapi_types.proofs.choices.faults_of.Goals as goal
 

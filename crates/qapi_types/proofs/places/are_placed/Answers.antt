@@ -1,4 +1,4 @@
-use Rattle.std.proofs.Common.{map, arith, sym}
+use Rattle.std.proofs.Common.{arith, sym}
 use Rattle.std.proofs.lemmas.List.{length-map}
 use Rattle.qapi_types.proofs.DealLaws.{goes_first, goes_second, deals_stuck, deals_all}
 use Rattle.qapi_types.proofs.places.are_placed.Goals as goal
