@@ -1,9 +1,8 @@
 -- Which tokens are accepted.
 use Rattle.std.proofs.Common.{◌≡◌, List, Option, Some, None, Result, Ok, Err, refl, ap, ◌∙◌, subst}
 use Rattle.qapi_lex.specs.declared.token.Token.{Token}
-use Rattle.qapi_tree.specs.declared.{fault.TreeFault.TreeFault, tree.Expr.Expr}
+use Rattle.qapi_tree.specs.{declared.fault.TreeFault.TreeFault, declared.tree.Expr.Expr, Spelling.SpellsRow}
 use Rattle.qapi_tree.specs.{Judging.first_fault, Judging.unless_faulty, Judging.expressions_of, Reading.on, Reading.objects_of}
-use Rattle.qapi_tree.specs.Spelling.{SpellsRow}
 use Rattle.qapi_tree.proofs.{Accepts.row-read, Holds.row-spelled}
 
 abbrev Accepted : Result (List Expr) TreeFault → List Expr → Type 0

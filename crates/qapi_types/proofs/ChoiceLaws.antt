@@ -1,7 +1,6 @@
 -- Names along choices of branches, by what types lead to.
 use Rattle.std.proofs.Common.{◌≡◌, ◌<◌, ◌≤◌, ◌+◌, ◌||◌, ◌⊎◌, ℕ, zero, suc, Bool, true, false, cond, List, [], ◌∷◌, ◌++◌, length, Option, Some, None, is_some, refl, sym, ap, subst, inl, inr, arith, append_assoc, bytes_eq}
-use Rattle.std.proofs.lemmas.List.{append-nil}
-use Rattle.std.proofs.lemmas.Slice.Eq.{bytes_eq-Decides}
+use Rattle.std.proofs.lemmas.{List.append-nil, Slice.Eq.bytes_eq-Decides}
 use Rattle.qapi_types.specs.Chains.{Refers, Leads, by_one, and_one, IsInside}
 use Rattle.qapi_types.specs.Choices.{times, Table, names_of, Along, stays, takes, ClashesAfter, AreApart, stands, again, shares, IsFaulty, IsTable, AllApart}
 use Rattle.qapi_types.proofs.ChainLaws.{row-holds}

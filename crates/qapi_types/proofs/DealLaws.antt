@@ -1,9 +1,7 @@
 -- Numbers that are dealt to two lists.
 use Rattle.std.proofs.Common.{◌≡◌, ◌≤◌, ◌<◌, ◌+◌, ◌↔◌, ℕ, true, false, IsTrue, List, [], ◌∷◌, length, drop, get_or, refl, sym, ap, ◌∙◌, subst, arith}
-use Rattle.std.proofs.lemmas.Grind.{common_steps}
-use Rattle.std.proofs.lemmas.List.{drop_more, drop_all, length-drop}
-use Rattle.qapi_types.specs.Goodness.{AreDealt, none, first, second}
-use Rattle.qapi_types.specs.Sets.{is_at}
+use Rattle.std.proofs.lemmas.{Grind.common_steps, List.drop_more, List.drop_all, List.length-drop}
+use Rattle.qapi_types.specs.{Goodness.AreDealt, Goodness.none, Goodness.first, Goodness.second, Sets.is_at}
 
 first-front : {n x : ℕ} {xs ys : List ℕ} → AreDealt n (x ∷ xs) ys → n ≤ x
 first-front {n} {x} (first d) = omega arith

@@ -1,15 +1,11 @@
 -- Faults of types, by the sets of their names and by marks.
 use Rattle.std.proofs.Common.{◌≡◌, ◌≤◌, ◌<◌, ◌↔◌, ℕ, Bool, true, false, IsTrue, List, [], ◌∷◌, map, Option, Some, None, is_none, is_some, length, refl, sym, ap, ◌∙◌, subst, inl, inr, arith, get_or}
-use Rattle.std.proofs.Math.ListN.{get_or-map}
-use Rattle.std.proofs.lemmas.List.{length-map, get_or_default}
-use Rattle.qapi_types.specs.declared.choices.TypeFaults.{TypeFaults}
-use Rattle.qapi_types.specs.declared.kind.Kind.{Kind}
+use Rattle.std.proofs.{Math.ListN.get_or-map, lemmas.List.length-map, lemmas.List.get_or_default}
+use Rattle.qapi_types.specs.declared.{choices.TypeFaults.TypeFaults, kind.Kind.Kind, kind.MemberDef.MemberDef}
 use Rattle.qapi_types.specs.declared.kind.Kind.TheVariants as kinds
-use Rattle.qapi_types.specs.declared.kind.MemberDef.{MemberDef}
 use Rattle.qapi_types.specs.Chains.{has, row_of, IsInside, Leads, by_one, and_one, IsReachedFrom, NoneOnCycle, marked}
 use Rattle.qapi_types.specs.Choices.{times, names_of, again, shares, stands, AreApart, AllApart, IsFaulty}
-use Rattle.qapi_types.specs.Goodness.{choices_of}
-use Rattle.qapi_types.specs.Sets.{HasNames, IsSetOf, has_member_in, ClashesMarked, HasFaults}
+use Rattle.qapi_types.specs.{Goodness.choices_of, Sets.HasNames, Sets.IsSetOf, Sets.has_member_in, Sets.ClashesMarked, Sets.HasFaults}
 use Rattle.qapi_types.specs.Types.{kind_of, members_of, member_names, branch_types}
 use Rattle.qapi_types.proofs.ChoiceLaws.{again-none, again-some, both, shares-both, apart_all, apart_not}
 use Rattle.qapi_types.proofs.NameLemmas.{list_any-map}

@@ -1,17 +1,10 @@
 -- The parts are good where each condition holds, and only there.
 use Rattle.std.proofs.Common.{◌≡◌, ◌<◌, ◌↔◌, ℕ, Bool, true, false, IsTrue, List, map, length, Result, IfOk, sym, subst}
 use Rattle.std.specs.List.{All}
-use Rattle.std.proofs.lemmas.List.{length-map}
-use Rattle.std.proofs.lemmas.List.Elements.{All-map, All-nil, All-weaker}
-use Rattle.std.proofs.lemmas.Result.{IfOk-weaker}
-use Rattle.qapi_types.specs.declared.kind.Branch.{Branch}
-use Rattle.qapi_types.specs.declared.kind.Kind.{Kind}
+use Rattle.std.proofs.lemmas.{List.length-map, List.Elements.All-map, List.Elements.All-nil, List.Elements.All-weaker, Result.IfOk-weaker}
+use Rattle.qapi_types.specs.declared.{kind.Branch.Branch, kind.Kind.Kind, parts.CommandDef.CommandDef, parts.EventDef.EventDef}
 use Rattle.qapi_types.specs.declared.kind.Kind.TheVariants as kinds
-use Rattle.qapi_types.specs.declared.parts.CommandDef.{CommandDef}
-use Rattle.qapi_types.specs.declared.parts.EventDef.{EventDef}
-use Rattle.qapi_types.specs.declared.parts.Parts.{Parts}
-use Rattle.qapi_types.specs.Chains.{IsInside, NoneOnCycle}
-use Rattle.qapi_types.specs.Choices.{AreApart, AllApart}
+use Rattle.qapi_types.specs.{declared.parts.Parts.Parts, Chains.IsInside, Chains.NoneOnCycle, Choices.AreApart, Choices.AllApart}
 use Rattle.qapi_types.specs.Goodness.{IsCounted, IsInRange, RefersBelow, HasTag, HasPlainElement, HasApartAlternatives, AreDealt, HasApartValues, HasBranches, IsGood, definition_names, choices_of}
 use Rattle.qapi_types.specs.Types.{branch_types}
 

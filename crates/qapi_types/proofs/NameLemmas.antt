@@ -1,9 +1,6 @@
 -- Sets of names that tell whether a name is new.
 use Rattle.std.proofs.Common.{◌≡◌, ℕ, Bool, not, ◌||◌, List, [], ◌∷◌, map, Result, Ok, Err, IfOk, refl, ap, sym, subst, ◌∙◌}
-use Rattle.std.specs.BTreeSet.{insert_key}
-use Rattle.std.specs.Cmp.Lexicographic.{slice_cmp}
-use Rattle.std.specs.Ordering.{is_eq, nat_cmp}
-use Rattle.std.specs.List.{list_any}
+use Rattle.std.specs.{BTreeSet.insert_key, Cmp.Lexicographic.slice_cmp, Ordering.is_eq, Ordering.nat_cmp, List.list_any}
 use Rattle.qm_base.proofs.NameLemmas.{found, inserted}
 use Rattle.qapi_types.specs.Sets.{AddsName}
 

@@ -1,20 +1,11 @@
 -- What holds of all elements, or of all pairs of them, found one element after the other.
 use Rattle.std.proofs.Common.{◌≡◌, ◌≤◌, ◌<◌, ◌+◌, ◌↔◌, ℕ, nat_eq, nat_cmp, Bool, true, false, not, IsTrue, List, [], length, take, get_or, refl, sym, ap, ◌∙◌, subst, arith}
-use Rattle.std.specs.BTreeMap.{is_at}
+use Rattle.std.specs.{BTreeMap.is_at, BTreeSet.BTreeSet, BTreeSet.Updates, List.All, List.AllPairs, List.list_any, Option.IsSome}
 use Rattle.std.specs.BTreeSet as sorted
-use Rattle.std.specs.BTreeSet.{BTreeSet, Updates}
-use Rattle.std.specs.List.{All, AllPairs, list_any}
-use Rattle.std.specs.Option.{IsSome}
-use Rattle.std.proofs.lemmas.Bool.Decides.{Decides-eqb}
-use Rattle.std.proofs.lemmas.Grind.{common_steps}
-use Rattle.std.proofs.lemmas.List.{take_more, take_all, get_or-take, get_or_default}
-use Rattle.std.proofs.lemmas.List.Elements.{All-more}
-use Rattle.std.proofs.lemmas.List.Folds.{Any-from_list_any, list_any_at, list_any_more}
-use Rattle.std.proofs.lemmas.List.Quantifiers.{all_pairs_push}
-use Rattle.qapi_types.specs.declared.kind.Branch.{Branch}
-use Rattle.qapi_types.specs.declared.kind.Kind.{Kind}
-use Rattle.qapi_types.specs.Goodness.{AreToldApart}
-use Rattle.qapi_types.specs.Sets.{IsNewKind}
+use Rattle.std.proofs.lemmas.{Bool.Decides.Decides-eqb, Grind.common_steps}
+use Rattle.std.proofs.lemmas.List.{take_more, take_all, get_or-take, get_or_default, Elements.All-more}
+use Rattle.std.proofs.lemmas.List.{Folds.Any-from_list_any, Folds.list_any_at, Folds.list_any_more, Quantifiers.all_pairs_push}
+use Rattle.qapi_types.specs.{declared.kind.Branch.Branch, declared.kind.Kind.Kind, Goodness.AreToldApart, Sets.IsNewKind}
 use Rattle.qapi_types.specs.Types.{kind_of, json_kind_of}
 
 -- an element refutes it

@@ -2,18 +2,11 @@
 use Rattle.std.proofs.Common.{◌≡◌, ℕ, List, map, length, get_or, sym, subst, arith}
 use Rattle.std.specs.List.{All}
 use Rattle.std.proofs.lemmas.List.{length-map, get_or_default}
-use Rattle.qapi_types.specs.declared.kind.Kind.{Kind}
+use Rattle.qapi_types.specs.declared.{kind.Kind.Kind, kind.MemberDef.MemberDef, kind.ValueDef.ValueDef, parts.Parts.Parts}
 use Rattle.qapi_types.specs.declared.kind.Kind.TheVariants as kinds
-use Rattle.qapi_types.specs.declared.kind.MemberDef.{MemberDef}
-use Rattle.qapi_types.specs.declared.kind.ValueDef.{ValueDef}
-use Rattle.qapi_types.specs.declared.parts.Parts.{Parts}
-use Rattle.qapi_types.specs.Choices.{names_of, AreApart, stays}
-use Rattle.qapi_types.specs.Goodness.{IsShort, IsGood}
-use Rattle.qapi_types.specs.Lookups.{command_names, event_names}
-use Rattle.qapi_types.specs.Sets.{IsNamable}
-use Rattle.qapi_types.specs.Types.{member_names, value_names}
-use Rattle.qapi_types.proofs.ChoiceLaws.{times-append}
-use Rattle.qapi_types.proofs.FaultLaws.{names-at}
+use Rattle.qapi_types.specs.{Choices.names_of, Choices.AreApart, Choices.stays, Goodness.IsShort, Goodness.IsGood}
+use Rattle.qapi_types.specs.{Lookups.command_names, Lookups.event_names, Sets.IsNamable, Types.member_names, Types.value_names}
+use Rattle.qapi_types.proofs.{ChoiceLaws.times-append, FaultLaws.names-at}
 
 pub command_names_apart : (p : Parts) (names : List (List ℕ)) → names ≡ command_names p → IsGood p → AreApart names
 command_names_apart p names e g = subst AreApart (sym e) (λ y. (let h = g.names y in omega (arith, h, times-append y (command_names p) (event_names p))))

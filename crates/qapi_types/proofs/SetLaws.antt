@@ -1,10 +1,7 @@
 -- Sets of names that are gathered one after the other.
 use Rattle.std.proofs.Common.{◌≡◌, ◌≤◌, ◌<◌, ◌+◌, ◌||◌, ◌↔◌, ℕ, Bool, true, false, not, IsTrue, Option, Some, None, is_some, List, [], ◌∷◌, ◌++◌, map, take, drop, get_or, length, suc, refl, sym, ap, ◌∙◌, subst, arith, bytes_eq}
-use Rattle.std.proofs.Math.Seq.{split_at}
-use Rattle.std.proofs.lemmas.List.{map_more, take_all}
-use Rattle.std.proofs.lemmas.List.Folds.{list_any-append}
-use Rattle.qapi_types.specs.Choices.{AreApart, times, stands}
-use Rattle.qapi_types.specs.Sets.{AddsName, HasNames, IsSetOf}
+use Rattle.std.proofs.{Math.Seq.split_at, lemmas.List.map_more, lemmas.List.take_all, lemmas.List.Folds.list_any-append}
+use Rattle.qapi_types.specs.{Choices.AreApart, Choices.times, Choices.stands, Sets.AddsName, Sets.HasNames, Sets.IsSetOf}
 use Rattle.qapi_types.proofs.ChoiceLaws.{itself, one-more, times-append, times-stands}
 
 map-append : {X Y : Type 0} (f : X → Y) (xs ys : List X) → map f (xs ++ ys) ≡ map f xs ++ map f ys

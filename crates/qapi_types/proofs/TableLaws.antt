@@ -1,13 +1,10 @@
 -- Tables of names, seen through what holds them.
 use Rattle.std.proofs.Common.{◌≡◌, ◌+◌, ℕ, Bool, not, true, false, cond, List, [], ◌∷◌, ◌++◌, map, length, Option, position, Result, Ok, Err, OnOk, take, get_or, ◌<◌, refl, ap, sym, subst, ◌∙◌}
-use Rattle.std.specs.List.{list_any, position_or_len}
+use Rattle.std.specs.{List.list_any, List.position_or_len, Str.bytes_eq}
 use Rattle.std.specs.Prelude.{if◌then◌else◌}
-use Rattle.std.specs.Str.{bytes_eq}
 use Rattle.std.proofs.lemmas.List.{length-map, map_more}
-use Rattle.qapi_types.specs.Choices.{AreApart, stands}
-use Rattle.qapi_types.specs.Lookups.{place_of, with_name}
-use Rattle.qapi_types.proofs.NameLemmas.{list_any-map}
-use Rattle.qapi_types.proofs.SetLaws.{stands_before}
+use Rattle.qapi_types.specs.{Choices.AreApart, Choices.stands, Lookups.place_of, Lookups.with_name}
+use Rattle.qapi_types.proofs.{NameLemmas.list_any-map, SetLaws.stands_before}
 
 position_or_len-map : {X Y : Type 0} (f : X → Y) (p : Y → Bool) (xs : List X) → position_or_len p (map f xs) ≡ position_or_len (λ x. p (f x)) xs
 position_or_len-map f p [] = refl

@@ -1,7 +1,6 @@
 -- Names along choices of branches.
 use Rattle.std.specs.Prelude.{◌≡◌, ◌<◌, ◌≤◌, ◌+◌, ◌⊎◌, ◌++◌, ℕ, Bool, true, cond, List, length, slice_index_or, [], ◌∷◌, Option, Some, None, is_some}
-use Rattle.std.specs.List.{list_any}
-use Rattle.std.specs.Str.{bytes_eq}
+use Rattle.std.specs.{List.list_any, Str.bytes_eq}
 use Rattle.qm_base.specs.Names.{is_named}
 use Rattle.qapi_types.specs.Chains.{IsInside, Refers, Leads}
 

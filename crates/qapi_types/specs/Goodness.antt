@@ -2,17 +2,11 @@
 -- kinds of alternatives are this project's own rule). Each condition is a field of the last record.
 use Rattle.std.specs.Prelude.{◌≡◌, ◌<◌, ◌+◌, ◌^◌, ⊤, ℕ, true, false, List, [], ◌∷◌, ◌++◌, map, length, IfSome, IsSome}
 use Rattle.std.specs.List.{All, AllPairs}
-use Rattle.qapi_types.specs.declared.kind.Branch.{Branch}
-use Rattle.qapi_types.specs.declared.kind.Kind.{Kind}
+use Rattle.qapi_types.specs.declared.{kind.Branch.Branch, kind.Kind.Kind, kind.MemberDef.MemberDef, parts.ArgType.ArgType}
 use Rattle.qapi_types.specs.declared.kind.Kind.TheVariants as kinds
-use Rattle.qapi_types.specs.declared.kind.MemberDef.{MemberDef}
-use Rattle.qapi_types.specs.declared.parts.ArgType.{ArgType}
 use Rattle.qapi_types.specs.declared.parts.ArgType.TheVariants as args
-use Rattle.qapi_types.specs.declared.parts.CommandDef.{CommandDef}
-use Rattle.qapi_types.specs.declared.parts.EventDef.{EventDef}
-use Rattle.qapi_types.specs.declared.parts.Parts.{Parts}
-use Rattle.qapi_types.specs.Chains.{NoneOnCycle}
-use Rattle.qapi_types.specs.Choices.{AreApart, AllApart, Table, table_of}
+use Rattle.qapi_types.specs.declared.parts.{CommandDef.CommandDef, EventDef.EventDef, Parts.Parts}
+use Rattle.qapi_types.specs.{Chains.NoneOnCycle, Choices.AreApart, Choices.AllApart, Choices.Table, Choices.table_of}
 use Rattle.qapi_types.specs.Lookups.{command_names, event_names}
 use Rattle.qapi_types.specs.Types.{kind_of, is_object, is_enum, is_array, members_of, branches_of, values_of, member_names, value_names, branch_types, tag_position, tag_member, tag_values, json_kind_of}
 

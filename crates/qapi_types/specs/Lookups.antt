@@ -2,11 +2,8 @@
 use Rattle.std.specs.Prelude.{◌≡◌, ℕ, List, [], ◌∷◌, ◌++◌, map, Option, cond, position}
 use Rattle.std.specs.Str.{bytes_eq}
 use Rattle.qm_base.specs.Names.{is_named}
-use Rattle.qapi_types.specs.declared.kind.Kind.{Kind}
+use Rattle.qapi_types.specs.declared.{kind.Kind.Kind, parts.CommandDef.CommandDef, parts.EventDef.EventDef, parts.Parts.Parts}
 use Rattle.qapi_types.specs.declared.kind.Kind.TheVariants as kinds
-use Rattle.qapi_types.specs.declared.parts.CommandDef.{CommandDef}
-use Rattle.qapi_types.specs.declared.parts.EventDef.{EventDef}
-use Rattle.qapi_types.specs.declared.parts.Parts.{Parts}
 use Rattle.qapi_types.specs.Types.{member_names, value_names}
 
 -- the place of the first of the names that is the name, or none

@@ -1,15 +1,10 @@
 -- Sets of names, as lists whose order says nothing. This serves private functions.
 use Rattle.std.specs.Prelude.{◌≡◌, ◌<◌, ◌^◌, ◌↔◌, ℕ, Bool, true, not, ◌||◌, ◌&&◌, ◌==◌, nat_lt, IsTrue, IsSome, List, length, map, slice_index, Option, Some, None}
-use Rattle.std.specs.List.{All, list_any}
-use Rattle.std.specs.Str.{bytes_eq}
-use Rattle.qapi_types.specs.declared.kind.Kind.{Kind}
-use Rattle.qapi_types.specs.declared.kind.MemberDef.{MemberDef}
-use Rattle.qapi_types.specs.declared.choices.TypeFaults.{TypeFaults}
+use Rattle.std.specs.{List.All, List.list_any, Str.bytes_eq}
+use Rattle.qapi_types.specs.declared.{kind.Kind.Kind, kind.MemberDef.MemberDef, choices.TypeFaults.TypeFaults}
 use Rattle.qapi_types.specs.Chains.{Leads, NoneOnCycle, marked}
-use Rattle.qapi_types.specs.Choices.{Table, AllApart, AreApart, IsFaulty, stands}
-use Rattle.qapi_types.specs.Goodness.{choices_of}
-use Rattle.qapi_types.specs.Lookups.{names_in}
-use Rattle.qapi_types.specs.Types.{kind_of, members_of, branch_types, json_kind_of}
+use Rattle.qapi_types.specs.{Choices.Table, Choices.AllApart, Choices.AreApart, Choices.IsFaulty, Choices.stands, Goodness.choices_of}
+use Rattle.qapi_types.specs.{Lookups.names_in, Types.kind_of, Types.members_of, Types.branch_types, Types.json_kind_of}
 
 -- the names are those from before and one more, which was not there where it is new
 pub record AddsName (old : List (List ℕ)) (name : List ℕ) (is_new : Bool) (new : List (List ℕ)) : Type 0 where

@@ -1,13 +1,9 @@
 -- What a table says of its types (QAPI code generation guide, "Schema syntax").
 use Rattle.std.specs.Prelude.{ℕ, Bool, true, false, List, [], map, slice_get, slice_index_or, Option, Some, None}
 use Rattle.std.specs.Option.{option_and_then}
-use Rattle.qapi_types.specs.declared.kind.Branch.{Branch}
-use Rattle.qapi_types.specs.declared.kind.JsonKind.{JsonKind}
+use Rattle.qapi_types.specs.declared.kind.{Branch.Branch, JsonKind.JsonKind, Kind.Kind, MemberDef.MemberDef, ValueDef.ValueDef}
 use Rattle.qapi_types.specs.declared.kind.JsonKind.TheVariants as json
-use Rattle.qapi_types.specs.declared.kind.Kind.{Kind}
 use Rattle.qapi_types.specs.declared.kind.Kind.TheVariants as kinds
-use Rattle.qapi_types.specs.declared.kind.MemberDef.{MemberDef}
-use Rattle.qapi_types.specs.declared.kind.ValueDef.{ValueDef}
 
 -- what the type of the number is; a number past the table's end is taken for that of null
 abbrev pub kind_of : List Kind → ℕ → Kind

@@ -1,8 +1,6 @@
 -- What a line of a script orders (this project's own rule).
 use Rattle.std.specs.Prelude.{ℕ, ◌+◌, ◌*◌, ◌^◌, ◌-◌, ◌%◌, position, [], ◌∷◌, ◌==◌, nat_lt, nat_le, nat_eq, Bool, if◌then◌else◌, ◌&&◌, ◌||◌, List, length, take, drop, codes, Option, Some, None, is_some, option_map}
-use Rattle.std.specs.List.{starts_with, list_all}
-use Rattle.std.specs.Option.{option_and_then, option_or}
-use Rattle.std.specs.Str.{bytes_eq}
+use Rattle.std.specs.{List.starts_with, List.list_all, Option.option_and_then, Option.option_or, Str.bytes_eq}
 use Rattle.qm_base.specs.Numerals.{number_of}
 use Rattle.qm_core.specs.Texts.{cause_of}
 use Rattle.qm_script.specs.declared.orders.Order.{Order}

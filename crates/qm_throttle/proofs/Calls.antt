@@ -1,21 +1,14 @@
 -- One call on the open windows is one more call of the whole list.
 use Rattle.std.proofs.Common.{◌≡◌, ℕ, ◌+◌, ◌==◌, nat_le, Bool, true, false, cond, ◌||◌, List, [], ◌∷◌, ◌++◌, length, drop, filter, Option, Some, None, refl, ap, sym, ◌∙◌, append-nil, arith}
-use Rattle.std.specs.List.{flat_map}
-use Rattle.std.specs.Option.{option_map, option_to_list}
-use Rattle.std.specs.Ordering.{match_ordering, is_eq}
-use Rattle.std.specs.declared.cmp.Ordering.{Ordering}
-use Rattle.std.specs.declared.cmp.Ordering.TheVariants.{Less, Equal, Greater}
-use Rattle.std.proofs.lemmas.Bool.Decides.{Decides-eqb}
-use Rattle.std.proofs.lemmas.Grind.{flat_map-append}
-use Rattle.std.proofs.lemmas.List.Elements.{filter-append}
+use Rattle.std.specs.{List.flat_map, Option.option_map, Option.option_to_list, Ordering.match_ordering, Ordering.is_eq}
+use Rattle.std.specs.declared.cmp.Ordering.{Ordering, TheVariants.Less, TheVariants.Equal, TheVariants.Greater}
+use Rattle.std.proofs.lemmas.{Bool.Decides.Decides-eqb, Grind.flat_map-append, List.Elements.filter-append}
 use Rattle.std.proofs.Math.Seq.{drop-append_seam, drop-length}
 use Rattle.qm_throttle.specs.Keys.{key_order, same_key, period_of}
 use Rattle.qm_throttle.specs.Steps.{Throttling, Follows, Steps, Does, Stepped, opened_by, keeping, behind, raised_among, opens_again, ticked, sent_at, stepped}
 use Rattle.qm_throttle.specs.Windows.{Call, Raise, Tick, Cut, Open, cut_from, cut_of, concerns, fresh_window, keys_after, sent_of, sent_for, window_of, windows_for, windows_of, due_in, due_of}
-use Rattle.qm_throttle.specs.declared.sent.Sent.{Sent}
-use Rattle.qm_throttle.specs.Keys.{Key}
+use Rattle.qm_throttle.specs.{declared.sent.Sent.Sent, Keys.Key, declared.window.Window.Window}
 use Rattle.qm_plan.specs.declared.events.Period.{Period}
-use Rattle.qm_throttle.specs.declared.window.Window.{Window}
 use Rattle.qm_throttle.proofs.Cuts.{sends, moves, moved, reopened, cut-more, none_without_period}
 use Rattle.qm_throttle.proofs.Orders.{in_order_after, in_after, is_in, keys_after-append, key_equal, key_self, raises_key}
 use Rattle.qm_throttle.proofs.Raising.{IsRaised, raised_at, same_with, only_of}

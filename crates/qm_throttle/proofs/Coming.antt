@@ -1,22 +1,12 @@
 -- Deadlines that come at or before a moment.
 use Rattle.std.proofs.Common.{◌≡◌, ℕ, ◌<◌, ◌==◌, nat_le, Bool, true, false, cond, ◌||◌, ◌&&◌, List, [], ◌∷◌, Option, Some, None, refl, ap, sym, ◌∙◌, subst, arith}
-use Rattle.std.specs.BTreeMap.{is_at}
-use Rattle.std.specs.Cmp.{ranks}
-use Rattle.std.specs.List.{AllByRecursion}
-use Rattle.std.specs.List.Sorted.{IsStrictlySortedBy}
-use Rattle.std.specs.Ordering.{is_eq, MatchOrdering, nat_cmp, ordering_then}
-use Rattle.std.specs.declared.cmp.Ordering.{Ordering}
+use Rattle.std.specs.{BTreeMap.is_at, Cmp.ranks, List.AllByRecursion, List.Sorted.IsStrictlySortedBy}
+use Rattle.std.specs.{Ordering.is_eq, Ordering.MatchOrdering, Ordering.nat_cmp, Ordering.ordering_then, declared.cmp.Ordering.Ordering}
 use Rattle.std.specs.declared.cmp.Ordering.TheVariants.{Less, Equal, Greater}
-use Rattle.std.proofs.lemmas.Bool.Decides.{nat_tests}
-use Rattle.std.proofs.lemmas.Map.Keys.{sorted_head}
+use Rattle.std.proofs.lemmas.{Bool.Decides.nat_tests, Map.Keys.sorted_head}
 use Rattle.qm_throttle.specs.Deadlines.{due_order, has_due, key_comes, has_come, ends_at, IsKept}
-use Rattle.qm_throttle.specs.Keys.{key_order}
-use Rattle.qm_throttle.specs.Steps.{window_at}
-use Rattle.qm_throttle.specs.declared.due.Due.{Due}
-use Rattle.qm_throttle.specs.Keys.{Key}
-use Rattle.qm_throttle.specs.declared.window.Window.{Window}
-use Rattle.qm_throttle.proofs.Keeping.{due_at, tied_at}
-use Rattle.qm_throttle.proofs.Orders.{key_self, key_back, key_equal}
+use Rattle.qm_throttle.specs.{Keys.key_order, Steps.window_at, declared.due.Due.Due, Keys.Key, declared.window.Window.Window}
+use Rattle.qm_throttle.proofs.{Keeping.due_at, Keeping.tied_at, Orders.key_self, Orders.key_back, Orders.key_equal}
 
 not_before : (a b m : ℕ) (r k : Ordering) → MatchOrdering r (a < b) (a ≡ b) (b < a) → ordering_then r k ≡ Less → nat_le a m ≡ false → nat_le b m ≡ false
 not_before a b m Less k h e late = grind (arith, nat_tests)

@@ -1,18 +1,9 @@
 -- Windows copied one after the other.
 use Rattle.std.proofs.Common.{◌≡◌, ◌<◌, cond, List, [], ◌∷◌, ◌++◌, Some, None, refl, ap, sym, ◌∙◌, subst, append_assoc}
-use Rattle.std.specs.BTreeMap.{insert_entry}
-use Rattle.std.specs.List.Sorted.{IsStrictlySortedBy}
-use Rattle.std.specs.Map.{keys_of}
-use Rattle.std.specs.Ordering.{is_eq, match_ordering}
-use Rattle.std.specs.declared.cmp.Ordering.{Ordering}
-use Rattle.std.specs.declared.cmp.Ordering.TheVariants.{Less, Greater}
-use Rattle.qm_throttle.specs.Deadlines.{Lasts}
-use Rattle.qm_throttle.specs.Keys.{key_order}
-use Rattle.qm_throttle.specs.Steps.{window_at}
-use Rattle.qm_throttle.specs.Keys.{Key}
-use Rattle.qm_throttle.specs.declared.window.Window.{Window}
-use Rattle.qm_throttle.proofs.Orders.{IsBefore, IsInOrder, key_self, key_back}
-use Rattle.qm_throttle.proofs.Sorting.{in_order_from_sorted}
+use Rattle.std.specs.{BTreeMap.insert_entry, List.Sorted.IsStrictlySortedBy, Map.keys_of, Ordering.is_eq, Ordering.match_ordering}
+use Rattle.std.specs.declared.cmp.Ordering.{Ordering, TheVariants.Less, TheVariants.Greater}
+use Rattle.qm_throttle.specs.{Deadlines.Lasts, Keys.key_order, Steps.window_at, Keys.Key, declared.window.Window.Window}
+use Rattle.qm_throttle.proofs.{Orders.IsBefore, Orders.IsInOrder, Orders.key_self, Orders.key_back, Sorting.in_order_from_sorted}
 
 less_at : (j : Key) (xs : List (Key × Window)) (k : Key) (w : Window) (rest : List (Key × Window)) → IsBefore j (keys_of (xs ++ (k, w) ∷ rest)) → key_order j k ≡ Less
 less_at j [] k w rest h = h.0

@@ -1,11 +1,9 @@
 -- One more call at the end of the calls of a key.
 use Rattle.std.proofs.Common.{◌≡◌, ℕ, zero, suc, ◌+◌, ◌<◌, ◌≤◌, nat_le, Bool, true, false, cond, List, [], ◌∷◌, ◌++◌, length, take, Option, Some, None, refl, ap, sym, ◌∙◌, append-nil, append_assoc, arith}
 use Rattle.std.specs.Option.{option_map, option_to_list}
-use Rattle.std.proofs.lemmas.List.{take-append-le}
-use Rattle.std.proofs.Math.Seq.{take-length}
+use Rattle.std.proofs.{lemmas.List.take-append-le, Math.Seq.take-length}
 use Rattle.qm_throttle.specs.Windows.{Call, Raise, Tick, Cut, End, Open, cut_from, window_cut, end_of, last_raised, opened, fresh_window, after_sent, one_later, option_or}
-use Rattle.qm_throttle.specs.Keys.{Key}
-use Rattle.qm_throttle.specs.declared.sent.Sent.{Sent}
+use Rattle.qm_throttle.specs.{Keys.Key, declared.sent.Sent.Sent}
 
 -- what one call sends
 abbrev pub sends : Option Open → Call → List Sent

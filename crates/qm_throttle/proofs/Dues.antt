@@ -1,10 +1,8 @@
 -- Deadlines among others.
 use Rattle.std.proofs.Common.{◌≡◌, ℕ, zero, suc, ◌+◌, ◌<◌, Bool, true, false, cond, ◌||◌, List, [], ◌∷◌, ◌++◌, length, take, get_or, refl, ap, sym, ◌∙◌}
-use Rattle.std.proofs.lemmas.List.{take_more}
-use Rattle.std.proofs.lemmas.List.Folds.{list_any-append}
+use Rattle.std.proofs.lemmas.List.{take_more, Folds.list_any-append}
 use Rattle.std.specs.BTreeMap.{is_at}
-use Rattle.qm_throttle.specs.Deadlines.{due_order, is_listed}
-use Rattle.qm_throttle.specs.declared.due.Due.{Due}
+use Rattle.qm_throttle.specs.{Deadlines.due_order, Deadlines.is_listed, declared.due.Due.Due}
 
 -- what is not among all is not among the first
 pub not_listed_before : (dues : List Due) (i : ℕ) (q : Due) → is_listed dues q ≡ false → is_listed (take i dues) q ≡ false

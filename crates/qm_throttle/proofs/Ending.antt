@@ -1,21 +1,13 @@
 -- Windows that end, one after the other.
 use Rattle.std.proofs.Common.{◌≡◌, ℕ, nat_le, Bool, true, false, cond, ◌||◌, List, [], ◌∷◌, ◌++◌, Option, Some, None, refl, ap, sym, ◌∙◌, subst}
-use Rattle.std.specs.BTreeMap.{is_at}
-use Rattle.std.specs.BTreeSet.{BTreeSet, contains}
-use Rattle.std.specs.List.{flat_map}
-use Rattle.std.specs.List.Sorted.{IsStrictlySortedBy}
-use Rattle.std.specs.Map.{lookup, keys_of, remove_entry, set_value}
-use Rattle.std.specs.Option.{option_to_list}
-use Rattle.std.specs.Ordering.{is_eq}
-use Rattle.std.specs.declared.cmp.Ordering.{Ordering}
-use Rattle.std.specs.declared.cmp.Ordering.TheVariants.{Less, Equal, Greater}
+use Rattle.std.specs.{BTreeMap.is_at, BTreeSet.BTreeSet, BTreeSet.contains, List.flat_map, List.Sorted.IsStrictlySortedBy}
+use Rattle.std.specs.{Map.lookup, Map.keys_of, Map.remove_entry, Map.set_value, Option.option_to_list, Ordering.is_eq}
+use Rattle.std.specs.declared.cmp.Ordering.{Ordering, TheVariants.Less, TheVariants.Equal, TheVariants.Greater}
 use Rattle.std.proofs.lemmas.Map.Lookups.{btree_set_from_contains}
 use Rattle.qm_throttle.specs.Deadlines.{has_come}
 use Rattle.qm_throttle.specs.Endings.{opened_again, kept_of, opened_in, after_end, ended_in, ended_at}
 use Rattle.qm_throttle.specs.Keys.{key_order, key_total, same_key}
-use Rattle.qm_throttle.specs.Steps.{window_at, opens_again, ticked, sent_at}
-use Rattle.qm_throttle.specs.Keys.{Key}
-use Rattle.qm_throttle.specs.declared.sent.Sent.{Sent}
+use Rattle.qm_throttle.specs.{Steps.window_at, Steps.opens_again, Steps.ticked, Steps.sent_at, Keys.Key, declared.sent.Sent.Sent}
 use Rattle.qm_throttle.specs.declared.window.Window.{Window}
 use Rattle.qm_throttle.proofs.Orders.{IsBefore, IsInOrder, is_in, key_self, key_back, key_equal, none_before}
 use Rattle.qm_throttle.proofs.Sorting.{in_order_from_sorted, sorted_from_in_order}

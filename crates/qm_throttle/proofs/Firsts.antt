@@ -1,21 +1,13 @@
 -- The earliest deadline.
 use Rattle.std.proofs.Common.{◌≡◌, ℕ, ◌≤◌, ◌<◌, ◌==◌, true, false, cond, List, [], ◌∷◌, length, Option, Some, None, refl, ap, sym, ◌∙◌, subst, arith}
-use Rattle.std.specs.Cmp.{ranks}
-use Rattle.std.specs.Map.{keys_of}
-use Rattle.std.specs.List.Sorted.{IsStrictlySortedBy}
+use Rattle.std.specs.{Cmp.ranks, Map.keys_of, List.Sorted.IsStrictlySortedBy}
 use Rattle.std.specs.Ordering.{is_eq, is_gt, MatchOrdering, nat_cmp, ordering_then}
-use Rattle.std.specs.declared.cmp.Ordering.{Ordering}
-use Rattle.std.specs.declared.cmp.Ordering.TheVariants.{Less, Equal, Greater}
+use Rattle.std.specs.declared.cmp.Ordering.{Ordering, TheVariants.Less, TheVariants.Equal, TheVariants.Greater}
 use Rattle.std.proofs.lemmas.Bool.Decides.{nat_tests}
-use Rattle.qm_throttle.specs.Deadlines.{due_order, has_due, ends_at, is_due, IsKept}
-use Rattle.qm_throttle.specs.Keys.{key_order}
-use Rattle.qm_throttle.specs.Steps.{window_at}
-use Rattle.qm_throttle.specs.Windows.{lesser, due_in}
-use Rattle.qm_throttle.specs.declared.due.Due.{Due}
-use Rattle.qm_throttle.specs.Keys.{Key}
+use Rattle.qm_throttle.specs.{Deadlines.due_order, Deadlines.has_due, Deadlines.ends_at, Deadlines.is_due, Deadlines.IsKept, Keys.key_order}
+use Rattle.qm_throttle.specs.{Steps.window_at, Windows.lesser, Windows.due_in, declared.due.Due.Due, Keys.Key}
 use Rattle.qm_throttle.specs.declared.window.Window.{Window}
-use Rattle.qm_throttle.proofs.Keeping.{due_at, none_at}
-use Rattle.qm_throttle.proofs.Orders.{IsInOrder, key_self, key_equal}
+use Rattle.qm_throttle.proofs.{Keeping.due_at, Keeping.none_at, Orders.IsInOrder, Orders.key_self, Orders.key_equal}
 use Rattle.qm_throttle.proofs.Sorting.{in_order_from_sorted}
 
 -- a window ends no sooner

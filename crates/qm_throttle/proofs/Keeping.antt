@@ -1,22 +1,15 @@
 -- Deadlines beside their windows.
 use Rattle.std.proofs.Common.{◌≡◌, ℕ, ◌<◌, ◌==◌, Bool, true, false, cond, List, [], ◌∷◌, Option, Some, None, refl, ap, sym, ◌∙◌, subst, arith}
-use Rattle.std.specs.BTreeMap.{is_at, insert_entry}
-use Rattle.std.specs.Map.{keys_of, set_value}
+use Rattle.std.specs.{BTreeMap.is_at, BTreeMap.insert_entry, Map.keys_of, Map.set_value}
 use Rattle.std.specs.Ordering.{is_eq, match_ordering, MatchOrdering, nat_cmp, ordering_then}
-use Rattle.std.specs.declared.cmp.Ordering.{Ordering}
-use Rattle.std.specs.declared.cmp.Ordering.TheVariants.{Less, Equal, Greater}
-use Rattle.std.specs.Cmp.{ranks}
-use Rattle.std.specs.List.Sorted.{IsStrictlySortedBy}
+use Rattle.std.specs.declared.cmp.Ordering.{Ordering, TheVariants.Less, TheVariants.Equal, TheVariants.Greater}
+use Rattle.std.specs.{Cmp.ranks, List.Sorted.IsStrictlySortedBy}
 use Rattle.std.proofs.lemmas.Bool.Decides.{nat_tests}
 use Rattle.qm_throttle.specs.Deadlines.{due_order, has_due, ends_at, is_due, Lasts, IsKept}
 use Rattle.qm_throttle.specs.Keys.{key_order, same_key}
 use Rattle.qm_throttle.specs.Steps.{Stepped, window_at, keeping, kept_in, kept_at, unkept, opened_by, behind, raised_among}
-use Rattle.qm_throttle.specs.declared.due.Due.{Due}
-use Rattle.qm_throttle.specs.Keys.{Key}
-use Rattle.qm_throttle.specs.declared.sent.Sent.{Sent}
-use Rattle.qm_throttle.specs.declared.window.Window.{Window}
-use Rattle.qm_throttle.proofs.Orders.{IsBefore, IsInOrder, before_trans, key_equal}
-use Rattle.qm_throttle.proofs.Sorting.{in_order_from_sorted}
+use Rattle.qm_throttle.specs.{declared.due.Due.Due, Keys.Key, declared.sent.Sent.Sent, declared.window.Window.Window}
+use Rattle.qm_throttle.proofs.{Orders.IsBefore, Orders.IsInOrder, Orders.before_trans, Orders.key_equal, Sorting.in_order_from_sorted}
 
 -- an event kept in a window changes no deadline and no period
 abbrev IsLike : Option Window → Option Window → Type 0

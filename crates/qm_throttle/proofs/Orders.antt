@@ -1,15 +1,11 @@
 -- Keys in their order.
 use Rattle.std.proofs.Common.{◌≡◌, Bool, true, false, ◌||◌, List, [], ◌∷◌, ◌++◌, refl, ap, sym, ◌∙◌, subst}
-use Rattle.std.specs.Cmp.Lexicographic.{slice_cmp}
-use Rattle.std.specs.FinMap.{slice_cmp-IsAntisymmetric, nat_cmp-IsAntisymmetric}
-use Rattle.std.specs.List.{list_any}
+use Rattle.std.specs.{Cmp.Lexicographic.slice_cmp, FinMap.slice_cmp-IsAntisymmetric, FinMap.nat_cmp-IsAntisymmetric, List.list_any}
 use Rattle.std.specs.Ordering.{nat_cmp, ordering_then, ordering_reverse, match_ordering, is_eq}
-use Rattle.std.specs.declared.cmp.Ordering.{Ordering}
-use Rattle.std.specs.declared.cmp.Ordering.TheVariants.{Less, Equal, Greater}
+use Rattle.std.specs.declared.cmp.Ordering.{Ordering, TheVariants.Less, TheVariants.Equal, TheVariants.Greater}
 use Rattle.std.proofs.lemmas.Cmp.{tied_itself}
 use Rattle.qm_throttle.specs.Keys.{key_order, key_total, same_key, with_key}
-use Rattle.qm_throttle.specs.Windows.{Call, Raise, Tick, keys_after, with_call}
-use Rattle.qm_throttle.specs.Keys.{Key}
+use Rattle.qm_throttle.specs.{Windows.Call, Windows.Raise, Windows.Tick, Windows.keys_after, Windows.with_call, Keys.Key}
 
 pub key_self : (k : Key) → key_order k k ≡ Equal
 key_self k = tied_itself key_total k

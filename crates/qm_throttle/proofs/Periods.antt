@@ -1,21 +1,13 @@
 -- The periods of events, and what an event raised does.
 use Rattle.std.proofs.Common.{◌≡◌, ◌≢◌, ◌↔◌, ℕ, zero, suc, ◌<◌, ◌==◌, Bool, true, false, cond, not, ◌&&◌, ◌||◌, List, [], ◌∷◌, length, map, get_or, Option, Some, None, refl, ap, sym, ◌∙◌, subst, arith}
-use Rattle.std.specs.List.{list_any}
-use Rattle.std.specs.Option.{option_to_list}
+use Rattle.std.specs.{List.list_any, Option.option_to_list, Str.bytes_eq}
 use Rattle.std.specs.Prelude.{IsTrue}
-use Rattle.std.specs.Str.{bytes_eq}
-use Rattle.std.proofs.lemmas.Bool.Decides.{nat_tests}
-use Rattle.std.proofs.lemmas.Option.{slice_get-get_or}
-use Rattle.std.proofs.lemmas.Slice.Eq.{bytes_eq-Decides}
-use Rattle.qm_json.specs.Cleanness.{are_distinct}
-use Rattle.qm_json.specs.declared.value.Json.{Json}
-use Rattle.qm_plan.specs.declared.events.Period.{Period}
-use Rattle.qm_plan.specs.declared.events.Raised.{Raised}
+use Rattle.std.proofs.lemmas.{Bool.Decides.nat_tests, Option.slice_get-get_or, Slice.Eq.bytes_eq-Decides}
+use Rattle.qm_json.specs.{Cleanness.are_distinct, declared.value.Json.Json}
+use Rattle.qm_plan.specs.declared.events.{Period.Period, Raised.Raised}
 use Rattle.qm_throttle.specs.Keys.{key_by, key_of, period_of}
 use Rattle.qm_throttle.specs.Steps.{Throttling, Does, IsHeld, Stepped, raised_in, raised_among, window_at}
-use Rattle.qm_throttle.specs.Windows.{event_of, raise_of}
-use Rattle.qm_throttle.specs.Keys.{Key}
-use Rattle.qm_throttle.specs.declared.sent.Sent.{Sent}
+use Rattle.qm_throttle.specs.{Windows.event_of, Windows.raise_of, Keys.Key, declared.sent.Sent.Sent}
 
 apart_at : (name : List ℕ) (ps : List Period) (i : ℕ) (p : Period) → i < length ps → p ≡ get_or ps i p → list_any (λ other. bytes_eq other name) (map (λ p. p.name) ps) ≡ false → bytes_eq p.name name ≡ false
 apart_at name [] i p h is none = absurd (omega (arith, h))

@@ -1,15 +1,10 @@
 -- An event raised among windows in the order of their keys.
 use Rattle.std.proofs.Common.{◌≡◌, ℕ, false, ◌||◌, List, [], ◌∷◌, ◌++◌, Option, Some, None, refl, ap, sym, ◌∙◌, subst, append-nil}
-use Rattle.std.specs.List.{flat_map}
-use Rattle.std.specs.Ordering.{match_ordering, is_eq}
-use Rattle.std.specs.declared.cmp.Ordering.{Ordering}
+use Rattle.std.specs.{List.flat_map, Ordering.match_ordering, Ordering.is_eq, declared.cmp.Ordering.Ordering}
 use Rattle.std.specs.declared.cmp.Ordering.TheVariants.{Less, Equal, Greater}
 use Rattle.qm_throttle.specs.Keys.{key_order, same_key, with_key}
 use Rattle.qm_throttle.specs.Steps.{Stepped, opened_by, keeping, behind, raised_among}
-use Rattle.qm_throttle.specs.Windows.{Open, window_of}
-use Rattle.qm_throttle.specs.declared.sent.Sent.{Sent}
-use Rattle.qm_throttle.specs.Keys.{Key}
-use Rattle.qm_throttle.specs.declared.window.Window.{Window}
+use Rattle.qm_throttle.specs.{Windows.Open, Windows.window_of, declared.sent.Sent.Sent, Keys.Key, declared.window.Window.Window}
 use Rattle.qm_throttle.proofs.Orders.{IsBefore, IsInOrder, before_trans, is_in, key_back, key_equal, none_before}
 
 -- the event is sent, and its window stands before others

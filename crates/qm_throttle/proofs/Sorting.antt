@@ -1,10 +1,7 @@
 -- Keys in order, by std's words.
 use Rattle.std.proofs.Common.{◌≡◌, List, [], ◌∷◌}
-use Rattle.std.specs.List.{AllByRecursion}
-use Rattle.std.specs.List.Sorted.{IsStrictlySortedBy}
-use Rattle.std.specs.declared.cmp.Ordering.TheVariants.{Less}
-use Rattle.qm_throttle.specs.Keys.{key_order}
-use Rattle.qm_throttle.specs.Keys.{Key}
+use Rattle.std.specs.{List.AllByRecursion, List.Sorted.IsStrictlySortedBy, declared.cmp.Ordering.TheVariants.Less}
+use Rattle.qm_throttle.specs.Keys.{key_order, Key}
 use Rattle.qm_throttle.proofs.Orders.{IsBefore, IsInOrder}
 
 before_from : (k : Key) (keys : List Key) → AllByRecursion (λ j. key_order k j ≡ Less) keys → IsBefore k keys

@@ -1,26 +1,14 @@
 -- Deadlines beside their windows at a tick.
 use Rattle.std.proofs.Common.{◌≡◌, ℕ, ◌+◌, ◌<◌, ◌==◌, nat_le, Bool, true, false, cond, ◌||◌, ◌&&◌, List, [], ◌∷◌, ◌++◌, Option, Some, None, refl, ap, sym, ◌∙◌, subst, arith}
-use Rattle.std.specs.BTreeMap.{is_at}
-use Rattle.std.specs.BTreeSet.{BTreeSet, contains}
-use Rattle.std.specs.List.{flat_map}
-use Rattle.std.specs.List.Sorted.{IsStrictlySortedBy}
-use Rattle.std.specs.Map.{keys_of}
-use Rattle.std.specs.Ordering.{is_eq}
-use Rattle.std.specs.declared.cmp.Ordering.{Ordering}
+use Rattle.std.specs.{BTreeMap.is_at, BTreeSet.BTreeSet, BTreeSet.contains, List.flat_map, List.Sorted.IsStrictlySortedBy, Map.keys_of}
+use Rattle.std.specs.{Ordering.is_eq, declared.cmp.Ordering.Ordering}
 use Rattle.std.specs.declared.cmp.Ordering.TheVariants.{Less, Equal, Greater}
-use Rattle.std.proofs.lemmas.Bool.Decides.{nat_tests}
-use Rattle.std.proofs.lemmas.List.Folds.{list_any-append}
+use Rattle.std.proofs.lemmas.{Bool.Decides.nat_tests, List.Folds.list_any-append}
 use Rattle.qm_throttle.specs.Deadlines.{due_order, has_due, is_listed, ends_at, has_come, next_due, next_of, next_at, Lasts, IsKept}
-use Rattle.qm_throttle.specs.Endings.{opened_again}
-use Rattle.qm_throttle.specs.Keys.{key_order, same_key}
-use Rattle.qm_throttle.specs.Steps.{window_at, opens_again, ticked}
-use Rattle.qm_throttle.specs.declared.due.Due.{Due}
-use Rattle.qm_throttle.specs.Keys.{Key}
-use Rattle.qm_throttle.specs.declared.sent.Sent.{Sent}
-use Rattle.qm_throttle.specs.declared.window.Window.{Window}
+use Rattle.qm_throttle.specs.{Endings.opened_again, Keys.key_order, Keys.same_key, Steps.window_at, Steps.opens_again, Steps.ticked}
+use Rattle.qm_throttle.specs.{declared.due.Due.Due, Keys.Key, declared.sent.Sent.Sent, declared.window.Window.Window}
 use Rattle.qm_throttle.proofs.Keeping.{due_at, tied_at, none_at}
-use Rattle.qm_throttle.proofs.Orders.{IsInOrder, key_back, key_equal, is_in}
-use Rattle.qm_throttle.proofs.Sorting.{in_order_from_sorted}
+use Rattle.qm_throttle.proofs.{Orders.IsInOrder, Orders.key_back, Orders.key_equal, Orders.is_in, Sorting.in_order_from_sorted}
 
 -- a window that opens where another with a kept event ends has this deadline
 abbrev opens_until : ℕ → ℕ → ℕ → Option Sent → Bool

@@ -1,15 +1,8 @@
 -- The deadlines of windows, in order (this project's own rule).
 use Rattle.std.specs.Prelude.{◌≡◌, ℕ, ◌+◌, ◌==◌, ◌<◌, nat_le, Bool, true, false, ◌&&◌, List, [], ◌∷◌, Option, Some, None}
-use Rattle.std.specs.BTreeMap.{is_at}
-use Rattle.std.specs.Cmp.{IsTotalOrder, on_total, then_total, nat_cmp_total}
-use Rattle.std.specs.List.{list_any}
-use Rattle.std.specs.Ordering.{nat_cmp, ordering_then}
-use Rattle.std.specs.declared.cmp.Ordering.{Ordering}
-use Rattle.qm_throttle.specs.Keys.{key_order, key_total}
-use Rattle.qm_throttle.specs.Steps.{window_at}
-use Rattle.qm_throttle.specs.declared.due.Due.{Due}
-use Rattle.qm_throttle.specs.Keys.{Key}
-use Rattle.qm_throttle.specs.declared.sent.Sent.{Sent}
+use Rattle.std.specs.{BTreeMap.is_at, Cmp.IsTotalOrder, Cmp.on_total, Cmp.then_total, Cmp.nat_cmp_total, List.list_any}
+use Rattle.std.specs.{Ordering.nat_cmp, Ordering.ordering_then, declared.cmp.Ordering.Ordering}
+use Rattle.qm_throttle.specs.{Keys.key_order, Keys.key_total, Steps.window_at, declared.due.Due.Due, Keys.Key, declared.sent.Sent.Sent}
 use Rattle.qm_throttle.specs.declared.window.Window.{Window}
 
 -- by deadline, then by event name, then by the printed key

@@ -1,13 +1,7 @@
 -- How one window ends among others (this project's own rule).
 use Rattle.std.specs.Prelude.{ℕ, ◌+◌, List, [], Option, Some, None}
-use Rattle.std.specs.BTreeMap.{is_at}
-use Rattle.std.specs.Map.{remove_entry, set_value}
-use Rattle.std.specs.Option.{option_to_list}
-use Rattle.qm_throttle.specs.Keys.{key_order}
-use Rattle.qm_throttle.specs.Steps.{window_at}
-use Rattle.qm_throttle.specs.Keys.{Key}
-use Rattle.qm_throttle.specs.declared.sent.Sent.{Sent}
-use Rattle.qm_throttle.specs.declared.window.Window.{Window}
+use Rattle.std.specs.{BTreeMap.is_at, Map.remove_entry, Map.set_value, Option.option_to_list}
+use Rattle.qm_throttle.specs.{Keys.key_order, Steps.window_at, Keys.Key, declared.sent.Sent.Sent, declared.window.Window.Window}
 
 -- a window that opens again at a moment
 abbrev pub opened_again : ℕ → Window → Window

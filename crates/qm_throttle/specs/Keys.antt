@@ -1,14 +1,10 @@
 -- The keys of events, and their order (this project's own rule).
 use Rattle.std.specs.Prelude.{ℕ, Bool, cond, List, [], ◌∷◌, map, codes, slice_get, Option, Some, None, refl}
-use Rattle.std.specs.Cmp.{IsTotalOrder, then_total}
-use Rattle.std.specs.Coded.{Coded, code_by, coded×, coded_list, coded_ℕ}
+use Rattle.std.specs.{Cmp.IsTotalOrder, Cmp.then_total, Coded.Coded, Coded.code_by, Coded.coded×, Coded.coded_list, Coded.coded_ℕ}
 use Rattle.std.specs.Cmp.Lexicographic.{slice_cmp, on_texts}
-use Rattle.std.specs.Ordering.{nat_cmp, ordering_then, match_ordering, is_eq}
-use Rattle.std.specs.Str.{bytes_eq}
+use Rattle.std.specs.{Ordering.nat_cmp, Ordering.ordering_then, Ordering.match_ordering, Ordering.is_eq, Str.bytes_eq}
 use Rattle.std.specs.declared.cmp.Ordering.{Ordering}
-use Rattle.qm_json.specs.Members.{member_of}
-use Rattle.qm_json.specs.Printing.{printed, array_text}
-use Rattle.qm_json.specs.declared.value.Json.{Json}
+use Rattle.qm_json.specs.{Members.member_of, Printing.printed, Printing.array_text, declared.value.Json.Json}
 use Rattle.qm_plan.specs.declared.events.Period.{Period}
 
 -- what windows are told apart by: the event's name, and the printed values of its key members

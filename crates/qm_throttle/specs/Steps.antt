@@ -1,17 +1,10 @@
 -- A throttle and its calls: what one call does to the open windows (this project's own rule).
 use Rattle.std.specs.Prelude.{◌≡◌, ◌≢◌, ℕ, ◌+◌, ◌==◌, nat_le, cond, List, [], ◌∷◌, ◌++◌, Option, Some, None}
-use Rattle.std.specs.BTreeMap.{is_at}
-use Rattle.std.specs.List.{flat_map}
-use Rattle.std.specs.Map.{lookup, set_value}
-use Rattle.std.specs.Option.{option_to_list}
-use Rattle.std.specs.Ordering.{match_ordering}
-use Rattle.qm_plan.specs.declared.events.Period.{Period}
-use Rattle.qm_plan.specs.declared.events.Raised.{Raised}
+use Rattle.std.specs.{BTreeMap.is_at, List.flat_map, Map.lookup, Map.set_value, Option.option_to_list, Ordering.match_ordering}
+use Rattle.qm_plan.specs.declared.events.{Period.Period, Raised.Raised}
 use Rattle.qm_throttle.specs.Keys.{key_order, key_of, period_of}
-use Rattle.qm_throttle.specs.Windows.{Call, Raise, Tick, sent_of, windows_of}
-use Rattle.qm_throttle.specs.Keys.{Key}
-use Rattle.qm_throttle.specs.declared.sent.Sent.{Sent}
-use Rattle.qm_throttle.specs.declared.window.Window.{Window}
+use Rattle.qm_throttle.specs.{Windows.Call, Windows.Raise, Windows.Tick, Windows.sent_of, Windows.windows_of, Keys.Key}
+use Rattle.qm_throttle.specs.declared.{sent.Sent.Sent, window.Window.Window}
 
 -- what a throttle shows: the periods, and the open windows in the order of their keys
 pub record Throttling : Type 0 where

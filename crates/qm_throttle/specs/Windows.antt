@@ -1,12 +1,8 @@
 -- The windows of throttled events, cut over a whole list of raises and ticks (this project's own rule).
 use Rattle.std.specs.Prelude.{ℕ, zero, suc, ◌+◌, ◌==◌, nat_le, min, Bool, true, cond, List, [], ◌∷◌, ◌++◌, length, map, take, drop, filter, Option, Some, None}
-use Rattle.std.specs.List.{flat_map}
-use Rattle.std.specs.Option.{option_map, option_to_list}
-use Rattle.qm_plan.specs.declared.events.Period.{Period}
-use Rattle.qm_plan.specs.declared.events.Raised.{Raised}
-use Rattle.qm_throttle.specs.Keys.{key_of, same_key, with_key, period_of}
-use Rattle.qm_throttle.specs.Keys.{Key}
-use Rattle.qm_throttle.specs.declared.sent.Sent.{Sent}
+use Rattle.std.specs.{List.flat_map, Option.option_map, Option.option_to_list}
+use Rattle.qm_plan.specs.declared.events.{Period.Period, Raised.Raised}
+use Rattle.qm_throttle.specs.{Keys.key_of, Keys.same_key, Keys.with_key, Keys.period_of, Keys.Key, declared.sent.Sent.Sent}
 use Rattle.qm_throttle.specs.declared.window.Window.{Window}
 
 -- what a throttle is told: an event of a key is raised, or a tick comes at a moment

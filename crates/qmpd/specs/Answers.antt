@@ -2,12 +2,9 @@
 use Rattle.std.specs.Prelude.{◌≡◌, ◌≢◌, ℕ, true, false, List, Option, Some, None, option_map, ◌⊎◌}
 use Rattle.qm_base.specs.{Faults.Rose, Faults.told_more, Faults.HoldsPart, Prefixes.IsPrefix}
 use Rattle.qapi_load.specs.Files.{NamedText}
-use Rattle.qm_core.specs.Legal.{IsLegal, past_of}
-use Rattle.qm_core.specs.Transcript.{taken_of, transcript_of}
+use Rattle.qm_core.specs.{Legal.IsLegal, Legal.past_of, Transcript.taken_of, Transcript.transcript_of}
 use Rattle.qm_script.specs.Plays.{Sinking, Putting}
-use Rattle.qmpd.specs.Causes.{Misses, Stops}
-use Rattle.qmpd.specs.Output.{output_of, journal_for, cannot_read}
-use Rattle.qmpd.specs.Words.{replay_of}
+use Rattle.qmpd.specs.{Causes.Misses, Causes.Stops, Output.output_of, Output.journal_for, Output.cannot_read, Words.replay_of}
 
 -- the words, and the library and the sink before and after the run: the files that the library
 -- tells, its count of faults, and the name of the latest file whose reading failed

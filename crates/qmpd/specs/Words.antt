@@ -1,7 +1,6 @@
 -- The words of a command line (this project's own rule).
 use Rattle.std.specs.Prelude.{ℕ, ◌==◌, nat_lt, nat_le, Bool, not, if◌then◌else◌, ◌&&◌, List, [], ◌∷◌, codes, length, slice_index, Option, Some, None}
-use Rattle.std.specs.Option.{option_and_then, option_or}
-use Rattle.std.specs.Str.{bytes_eq}
+use Rattle.std.specs.{Option.option_and_then, Option.option_or, Str.bytes_eq}
 use Rattle.qm_base.specs.Numerals.{number_of}
 use Rattle.qm_core.specs.declared.TheConstants.{MOST_ENTRIES}
 

@@ -1,7 +1,5 @@
 use Rattle.std.proofs.Common.{◌<◌, ℕ}
-use Rattle.qapi_types.specs.Chains.{Leads}
-use Rattle.qapi_types.specs.Choices.{IsFaulty}
-use Rattle.qapi_types.specs.Goodness.{choices_of}
+use Rattle.qapi_types.specs.{Chains.Leads, Choices.IsFaulty, Goodness.choices_of}
 use Rattle.qapi_types.proofs.choices.choices_are_good.Given as goal
 
 abbrev pub invariant-loop-number : goal.invariant-loop-number

@@ -1,7 +1,5 @@
 use Rattle.std.proofs.Common.{◌≡◌, ◌<◌, ℕ, true, false}
-use Rattle.qapi_types.specs.Chains.{marked}
-use Rattle.qapi_types.specs.Sets.{has_member_in}
-use Rattle.qapi_types.specs.Types.{kind_of}
+use Rattle.qapi_types.specs.{Chains.marked, Sets.has_member_in, Types.kind_of}
 use Rattle.qapi_types.proofs.choices.meets_marked.Given as goal
 
 abbrev pub invariant-loop-number : goal.invariant-loop-number

@@ -1,7 +1,6 @@
 use Rattle.std.proofs.Common.{map, ap, ◌∙◌, subst, rules}
-use Rattle.qapi_types.specs.Sets.{IsSetOf}
+use Rattle.qapi_types.specs.{Sets.IsSetOf, Types.value_names}
 use Rattle.qapi_types.proofs.SetLaws.{is_set}
-use Rattle.qapi_types.specs.Types.{value_names}
 use Rattle.qapi_types.proofs.goodness.has_apart_values.Goals as goal
 
 pub returns : goal.returns

@@ -1,7 +1,6 @@
 use Rattle.std.proofs.Common.{map, ap, ◌∙◌, subst, refl, rules}
-use Rattle.qapi_types.specs.Sets.{IsSetOf}
+use Rattle.qapi_types.specs.{Sets.IsSetOf, Goodness.definition_names}
 use Rattle.qapi_types.proofs.SetLaws.{is_set}
-use Rattle.qapi_types.specs.Goodness.{definition_names}
 use Rattle.qapi_types.proofs.goodness.have_apart_names.Goals as goal
 
 pub returns : goal.returns

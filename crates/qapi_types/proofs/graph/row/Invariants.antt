@@ -1,6 +1,5 @@
 use Rattle.std.proofs.Common.{◌≡◌, map, take}
-use Rattle.qapi_types.specs.Types.{branches_of}
-use Rattle.qapi_types.specs.declared.kind.Branch.{Branch}
+use Rattle.qapi_types.specs.{Types.branches_of, declared.kind.Branch.Branch}
 use Rattle.qapi_types.proofs.graph.row.Given as goal
 
 abbrev pub invariant-loop-branch : goal.invariant-loop-branch

@@ -1,13 +1,7 @@
 use Rattle.std.proofs.Common.{◌≡◌, nat_le, Bool, true, false, cond, ◌||◌, List, ◌∷◌, refl, ap, sym, ◌∙◌, subst, rules, arith}
-use Rattle.std.specs.BTreeMap.{is_at}
-use Rattle.std.specs.BTreeSet.{contains}
-use Rattle.std.specs.List.Sorted.{IsStrictlySortedBy}
-use Rattle.std.proofs.lemmas.Bool.Decides.{nat_tests}
-use Rattle.std.proofs.lemmas.Map.Keys.{sorted_tail}
-use Rattle.qm_throttle.specs.Deadlines.{due_order, key_comes}
-use Rattle.qm_throttle.specs.Keys.{key_order}
-use Rattle.qm_throttle.specs.declared.due.Due.{Due}
-use Rattle.qm_throttle.specs.Keys.{Key}
+use Rattle.std.specs.{BTreeMap.is_at, BTreeSet.contains, List.Sorted.IsStrictlySortedBy}
+use Rattle.std.proofs.lemmas.{Bool.Decides.nat_tests, Map.Keys.sorted_tail}
+use Rattle.qm_throttle.specs.{Deadlines.due_order, Deadlines.key_comes, Keys.key_order, declared.due.Due.Due, Keys.Key}
 use Rattle.qm_throttle.proofs.Coming.{none_comes, one_comes}
 use Rattle.qm_throttle.proofs.deadlines.come_keys.Goals as goal
 

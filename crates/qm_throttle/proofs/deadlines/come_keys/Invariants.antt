@@ -1,9 +1,6 @@
 use Rattle.std.proofs.Common.{◌≡◌, ◌||◌}
-use Rattle.std.specs.BTreeSet.{contains}
-use Rattle.std.specs.List.Sorted.{IsStrictlySortedBy}
-use Rattle.qm_throttle.specs.Deadlines.{due_order, key_comes}
-use Rattle.qm_throttle.specs.Keys.{key_order}
-use Rattle.qm_throttle.specs.Keys.{Key}
+use Rattle.std.specs.{BTreeSet.contains, List.Sorted.IsStrictlySortedBy}
+use Rattle.qm_throttle.specs.{Deadlines.due_order, Deadlines.key_comes, Keys.key_order, Keys.Key}
 use Rattle.qm_throttle.proofs.deadlines.come_keys.Given as goal
 
 abbrev pub invariant-loop-due : goal.invariant-loop-due

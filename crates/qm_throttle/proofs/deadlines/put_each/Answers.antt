@@ -1,7 +1,6 @@
 use Rattle.std.proofs.Common.{◌≡◌, Bool, true, cond, ap, ◌∙◌, rules}
 use Rattle.std.specs.BTreeMap.{is_at}
-use Rattle.qm_throttle.specs.Deadlines.{due_order, has_due}
-use Rattle.qm_throttle.specs.declared.due.Due.{Due}
+use Rattle.qm_throttle.specs.{Deadlines.due_order, Deadlines.has_due, declared.due.Due.Due}
 use Rattle.qm_throttle.proofs.Dues.{one_put}
 use Rattle.qm_throttle.proofs.deadlines.put_each.Goals as goal
 

@@ -1,6 +1,5 @@
 use Rattle.std.proofs.Common.{◌≡◌, ◌||◌, take}
-use Rattle.qm_throttle.specs.Deadlines.{has_due, is_listed}
-use Rattle.qm_throttle.specs.declared.due.Due.{Due}
+use Rattle.qm_throttle.specs.{Deadlines.has_due, Deadlines.is_listed, declared.due.Due.Due}
 use Rattle.qm_throttle.proofs.deadlines.put_each.Given as goal
 
 abbrev pub invariant-loop-due : goal.invariant-loop-due

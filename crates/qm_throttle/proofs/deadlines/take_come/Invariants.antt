@@ -1,6 +1,5 @@
 use Rattle.std.proofs.Common.{◌≡◌, nat_le, false, cond, length}
-use Rattle.qm_throttle.specs.Deadlines.{has_due}
-use Rattle.qm_throttle.specs.declared.due.Due.{Due}
+use Rattle.qm_throttle.specs.{Deadlines.has_due, declared.due.Due.Due}
 use Rattle.qm_throttle.proofs.deadlines.take_come.Given as goal
 
 abbrev pub invariant-loop-deadlines : goal.invariant-loop-deadlines

@@ -1,7 +1,5 @@
 use Rattle.std.proofs.Common.{◌≡◌, List, [], ◌∷◌, None, refl, ap, sym, ◌∙◌, rules}
-use Rattle.qm_throttle.specs.Windows.{due_in}
-use Rattle.qm_throttle.specs.Keys.{Key}
-use Rattle.qm_throttle.specs.declared.window.Window.{Window}
+use Rattle.qm_throttle.specs.{Windows.due_in, Keys.Key, declared.window.Window.Window}
 use Rattle.qm_throttle.proofs.throttle.Throttle.due.Goals as goal
 
 none_open : (ws : List (Key × Window)) → due_in ws ≡ None → ws ≡ []

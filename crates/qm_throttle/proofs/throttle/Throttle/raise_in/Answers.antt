@@ -2,12 +2,8 @@ use Rattle.std.proofs.Common.{◌≡◌, ◌≢◌, ◌↔◌, ◌∷◌, [], Li
 use Rattle.std.specs.Prelude.{IsTrue}
 use Rattle.qm_json.specs.Cleanness.{are_distinct}
 use Rattle.qm_plan.specs.declared.events.Period.{Period}
-use Rattle.qm_throttle.specs.Keys.{key_by}
-use Rattle.qm_throttle.specs.Steps.{Throttling, Does, raised_among, window_at}
-use Rattle.qm_throttle.specs.Windows.{event_of, raise_of}
-use Rattle.qm_throttle.specs.Keys.{Key}
-use Rattle.qm_throttle.specs.declared.sent.Sent.{Sent}
-use Rattle.qm_throttle.specs.declared.window.Window.{Window}
+use Rattle.qm_throttle.specs.{Keys.key_by, Steps.Throttling, Steps.Does, Steps.raised_among, Steps.window_at}
+use Rattle.qm_throttle.specs.{Windows.event_of, Windows.raise_of, Keys.Key, declared.sent.Sent.Sent, declared.window.Window.Window}
 use Rattle.qm_throttle.proofs.Periods.{period_found, sent_at_once, not_held, raised_as, held_where}
 use Rattle.qm_throttle.proofs.throttle.Throttle.raise_in.Goals as goal
 

@@ -1,9 +1,6 @@
 use Rattle.std.proofs.Common.{◌≡◌, None, ◌<◌, ◌++◌, List, ap, sym, ◌∙◌, subst, rules}
 use Rattle.std.specs.BTreeMap.{insert_entry}
-use Rattle.qm_throttle.specs.Keys.{key_order}
-use Rattle.qm_throttle.specs.Steps.{window_at}
-use Rattle.qm_throttle.specs.Keys.{Key}
-use Rattle.qm_throttle.specs.declared.window.Window.{Window}
+use Rattle.qm_throttle.specs.{Keys.key_order, Steps.window_at, Keys.Key, declared.window.Window.Window}
 use Rattle.qm_throttle.proofs.Copying.{next_of_all, one_copied, copied_lasts}
 use Rattle.qm_throttle.proofs.windows.Windows.copy.Goals as goal
 

@@ -1,10 +1,6 @@
 use Rattle.std.proofs.Common.{◌≡◌, ◌++◌}
-use Rattle.std.specs.List.Sorted.{IsStrictlySortedBy}
-use Rattle.std.specs.Map.{keys_of}
-use Rattle.qm_throttle.specs.Deadlines.{Lasts}
-use Rattle.qm_throttle.specs.Keys.{key_order}
-use Rattle.qm_throttle.specs.Steps.{window_at}
-use Rattle.qm_throttle.specs.Keys.{Key}
+use Rattle.std.specs.{List.Sorted.IsStrictlySortedBy, Map.keys_of}
+use Rattle.qm_throttle.specs.{Deadlines.Lasts, Keys.key_order, Steps.window_at, Keys.Key}
 use Rattle.qm_throttle.proofs.windows.Windows.copy.Given as goal
 
 abbrev pub invariant-loop-key : goal.invariant-loop-key

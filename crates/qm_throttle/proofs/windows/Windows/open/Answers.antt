@@ -1,9 +1,6 @@
 use Rattle.std.proofs.Common.{◌≡◌, None, rules, cond, true, false, ap, ◌∙◌}
 use Rattle.std.specs.BTreeMap.{is_at}
-use Rattle.qm_throttle.specs.Deadlines.{has_due, due_order}
-use Rattle.qm_throttle.specs.Steps.{window_at}
-use Rattle.qm_throttle.specs.declared.due.Due.{Due}
-use Rattle.qm_throttle.specs.Keys.{Key}
+use Rattle.qm_throttle.specs.{Deadlines.has_due, Deadlines.due_order, Steps.window_at, declared.due.Due.Due, Keys.Key}
 use Rattle.qm_throttle.proofs.Keeping.{due_at, kept_opened, kept_back}
 use Rattle.qm_throttle.proofs.windows.Windows.open.Goals as goal
 

@@ -1,12 +1,7 @@
 use Rattle.std.proofs.Common.{◌≡◌, List, [], ◌∷◌, None, ap, sym, ◌∙◌, subst}
-use Rattle.std.specs.BTreeMap.{insert_entry}
-use Rattle.std.specs.List.Sorted.{IsStrictlySortedBy}
-use Rattle.std.specs.Map.{keys_of}
-use Rattle.qm_throttle.specs.Keys.{key_order}
-use Rattle.qm_throttle.specs.Steps.{Stepped, window_at, kept_in, unkept, opened_by}
-use Rattle.qm_throttle.specs.Keys.{Key}
-use Rattle.qm_throttle.specs.declared.sent.Sent.{Sent}
-use Rattle.qm_throttle.specs.declared.window.Window.{Window}
+use Rattle.std.specs.{BTreeMap.insert_entry, List.Sorted.IsStrictlySortedBy, Map.keys_of}
+use Rattle.qm_throttle.specs.{Keys.key_order, Steps.Stepped, Steps.window_at, Steps.kept_in, Steps.unkept, Steps.opened_by, Keys.Key}
+use Rattle.qm_throttle.specs.declared.{sent.Sent.Sent, window.Window.Window}
 use Rattle.qm_throttle.proofs.Keeping.{raised-sent, raised-kept, given_back}
 use Rattle.qm_throttle.proofs.windows.Windows.raise.Goals as goal
 

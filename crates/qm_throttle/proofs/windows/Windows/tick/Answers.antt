@@ -1,7 +1,5 @@
 use Rattle.std.proofs.Common.{List, sym, ◌∙◌, subst}
-use Rattle.qm_throttle.specs.Deadlines.{IsKept}
-use Rattle.qm_throttle.specs.Keys.{Key}
-use Rattle.qm_throttle.specs.declared.window.Window.{Window}
+use Rattle.qm_throttle.specs.{Deadlines.IsKept, Keys.Key, declared.window.Window.Window}
 use Rattle.qm_throttle.proofs.Ticking.{IsPlan, kept_ticked, none_there}
 use Rattle.qm_throttle.proofs.windows.Windows.tick.Goals as goal
 
