@@ -1,7 +1,6 @@
 -- Want of memory is no fault of a text: no case of a split has it.
 use Rattle.std.proofs.Common.{◌≡◌, ◌≢◌, ℕ, List, Result, Ok, Err, refl}
-use Rattle.qapi_lex.specs.declared.{fault.LexFault.LexFault, fault.LexFault.TheVariants.Memory, spot.Spot.Spot, token.Token.Token}
-use Rattle.qapi_lex.specs.declared.token.TokenKind.{TokenKind}
+use Rattle.qapi_lex.specs.declared.{fault.LexFault.LexFault, fault.LexFault.TheVariants.Memory, spot.Spot.Spot, token.Token.Token, token.TokenKind.TokenKind}
 use Rattle.qapi_lex.specs.Splitting.{before, Cuts, at_end, at_line_end, escape_at_end, no_escape, no_byte, Lexes, nothing, space, comment, mark, flag, string, cut, bad_byte}
 use Rattle.qapi_lex.specs.Tokens.{tokens_of}
 use Rattle.qapi_lex.proofs.Covers.{lexed-splits}

@@ -2,14 +2,12 @@
 use Rattle.std.proofs.Common.{◌≡◌, ℕ, ◌+◌, ◌≤◌, ◌==◌, nat_lt, nat_eq, Bool, true, false, cond, ◌&&◌, ◌||◌, List, [], ◌∷◌, ◌++◌, length, Some, None, Result, Ok, Err, refl, ap, sym, ◌∙◌, arith, append_assoc, append-nil, length-append}
 use Rattle.std.specs.List.{list_all, prefix_len, starts_with}
 use Rattle.std.proofs.lemmas.{Bool.Decides.nat_tests, List.Sums.prefix_len-le-length}
-use Rattle.qapi_lex.specs.declared.{fault.LexFault.LexFault, fault.LexFault.TheVariants.BadByte, piece.Piece.Piece, quoted.Quoted.Quoted}
-use Rattle.qapi_lex.specs.declared.{spot.Spot.Spot, token.Token.Token}
+use Rattle.qapi_lex.specs.declared.{fault.LexFault.LexFault, fault.LexFault.TheVariants.BadByte, piece.Piece.Piece, quoted.Quoted.Quoted, spot.Spot.Spot, token.Token.Token}
 use Rattle.qapi_lex.specs.declared.token.TokenKind.TheVariants.{Mark, Flag, Str}
 use Rattle.qm_base.specs.Bytes.{is_space}
 use Rattle.qapi_lex.specs.{Pieces.is_mark, Pieces.up_to, Pieces.comment_length, Pieces.string_piece, Spots.after_byte, Spots.after_bytes}
 use Rattle.qapi_lex.specs.Splitting.{is_plain, doubled, written, word, is_no_line_end, IsLineEnd, before, Cuts, at_end, at_line_end, escape_at_end, no_escape, no_byte, Lexes, nothing, space, comment, mark, flag, string, cut, bad_byte}
-use Rattle.qapi_lex.specs.Strings.{is_printable, longer, quoted}
-use Rattle.qapi_lex.specs.Tokens.{followed_by, after_piece, tokens_after}
+use Rattle.qapi_lex.specs.{Strings.is_printable, Strings.longer, Strings.quoted, Tokens.followed_by, Tokens.after_piece, Tokens.tokens_after}
 use Rattle.qapi_lex.proofs.PieceLaws.{followed_by-nothing}
 
 passed-over : (body rest : List ℕ) (s : Spot) → tokens_after (length body) s (body ++ rest) ≡ tokens_after 0 (after_bytes s body) rest

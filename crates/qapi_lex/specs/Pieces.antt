@@ -3,10 +3,8 @@
 use Rattle.std.specs.Prelude.{ℕ, ◌==◌, nat_eq, Bool, true, false, cond, ◌||◌, List, ◌∷◌, length, codes, Option, Some, None, Result, Ok, Err}
 use Rattle.std.specs.List.{position, starts_with}
 use Rattle.qm_base.specs.Bytes.{is_space}
-use Rattle.qapi_lex.specs.declared.{fault.LexFault.LexFault, fault.LexFault.TheVariants.BadByte, piece.Piece.Piece}
-use Rattle.qapi_lex.specs.declared.{piece.Piece.TheVariants.Blank, piece.Piece.TheVariants.Whole, quoted.Quoted.Quoted}
-use Rattle.qapi_lex.specs.declared.token.TokenKind.TheVariants.{Mark, Flag, Str}
-use Rattle.qapi_lex.specs.Strings.{quoted}
+use Rattle.qapi_lex.specs.declared.{fault.LexFault.LexFault, fault.LexFault.TheVariants.BadByte, piece.Piece.Piece, piece.Piece.TheVariants.Blank, piece.Piece.TheVariants.Whole, quoted.Quoted.Quoted}
+use Rattle.qapi_lex.specs.{declared.token.TokenKind.TheVariants.Mark, declared.token.TokenKind.TheVariants.Flag, declared.token.TokenKind.TheVariants.Str, Strings.quoted}
 
 -- `{ } [ ] : ,`
 abbrev pub is_mark : ℕ → Bool

@@ -3,8 +3,7 @@
 use Rattle.std.specs.Prelude.{◌≡◌, ℕ, ◌==◌, Bool, true, false, not, cond, ◌&&◌, ◌||◌, nat_eq, List, [], ◌∷◌, ◌++◌, codes, Result, Ok, Err}
 use Rattle.std.specs.List.{list_all, starts_with}
 use Rattle.qapi_lex.specs.declared.fault.LexFault.{LexFault, TheVariants.BadByte, TheVariants.BadEscape, TheVariants.Unclosed}
-use Rattle.qapi_lex.specs.declared.{spot.Spot.Spot, token.Token.Token, token.TokenKind.TokenKind}
-use Rattle.qapi_lex.specs.declared.token.TokenKind.TheVariants.{Mark, Flag, Str}
+use Rattle.qapi_lex.specs.declared.{spot.Spot.Spot, token.Token.Token, token.TokenKind.TokenKind, token.TokenKind.TheVariants.Mark, token.TokenKind.TheVariants.Flag, token.TokenKind.TheVariants.Str}
 use Rattle.qm_base.specs.Bytes.{is_space}
 use Rattle.qapi_lex.specs.{Pieces.is_mark, Spots.after_byte, Spots.after_bytes, Strings.is_printable, Tokens.followed_by}
 

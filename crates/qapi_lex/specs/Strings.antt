@@ -2,8 +2,7 @@
 -- generation guide, "Schema syntax"; which fault is told is this project's own rule).
 use Rattle.std.specs.Prelude.{ℕ, ◌+◌, ◌==◌, nat_le, Bool, true, false, cond, ◌&&◌, List, [], ◌∷◌, ◌++◌, Result, Ok, Err}
 use Rattle.qapi_lex.specs.declared.fault.LexFault.{LexFault, TheVariants.BadByte, TheVariants.BadEscape, TheVariants.Unclosed}
-use Rattle.qapi_lex.specs.declared.quoted.{Quoted.Quoted, Role.Role}
-use Rattle.qapi_lex.specs.declared.quoted.Role.TheVariants.{Part, Escape, Close, Bad}
+use Rattle.qapi_lex.specs.declared.quoted.{Quoted.Quoted, Role.Role, Role.TheVariants.Part, Role.TheVariants.Escape, Role.TheVariants.Close, Role.TheVariants.Bad}
 
 -- 0x20 to 0x7E
 abbrev pub is_printable : ℕ → Bool

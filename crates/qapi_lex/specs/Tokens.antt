@@ -1,8 +1,7 @@
 -- The tokens of a schema's text, each with its place, or the first fault (QAPI code generation guide,
 -- "Schema syntax").
 use Rattle.std.specs.Prelude.{ℕ, zero, suc, List, [], ◌∷◌, ◌++◌, Result, Ok, Err}
-use Rattle.qapi_lex.specs.declared.{fault.LexFault.LexFault, piece.Piece.Piece}
-use Rattle.qapi_lex.specs.declared.{piece.Piece.TheVariants.Blank, piece.Piece.TheVariants.Whole, spot.Spot.Spot, token.Token.Token}
+use Rattle.qapi_lex.specs.declared.{fault.LexFault.LexFault, piece.Piece.Piece, piece.Piece.TheVariants.Blank, piece.Piece.TheVariants.Whole, spot.Spot.Spot, token.Token.Token}
 use Rattle.qapi_lex.specs.{Pieces.piece, Pieces.more_in, Spots.beginning, Spots.after_byte}
 
 -- the token of a piece that stands at a place

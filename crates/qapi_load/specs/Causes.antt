@@ -1,8 +1,7 @@
 -- The causes of an answer about a schema's files (this project's own rule).
 use Rattle.std.specs.Prelude.{◌≡◌, ◌≢◌, ℕ, List, Result, Ok, Err}
 use Rattle.qm_base.specs.Faults.{Rose}
-use Rattle.qapi_load.specs.declared.fault.{LoadFault.LoadFault, LoadRule.TheVariants.ReadFault}
-use Rattle.qapi_load.specs.Loading.{memory_fault, read_fault}
+use Rattle.qapi_load.specs.{declared.fault.LoadFault.LoadFault, declared.fault.LoadRule.TheVariants.ReadFault, Loading.memory_fault, Loading.read_fault}
 
 -- an answer that no want of memory and no failed read took the place of
 abbrev pub IsAnswer : {A : Type 0} → Result A LoadFault → Type 0

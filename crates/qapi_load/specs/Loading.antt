@@ -4,16 +4,14 @@ use Rattle.std.specs.Prelude.{ℕ, zero, suc, ◌==◌, Bool, true, false, if◌
 use Rattle.std.specs.{List.list_any, Str.bytes_eq}
 use Rattle.qapi_lex.specs.{declared.fault.LexFault.LexFault, declared.token.Token.Token, Tokens.tokens_of}
 use Rattle.qapi_lex.specs.declared.fault.LexFault.TheVariants as lexing
-use Rattle.qapi_tree.specs.declared.{fault.TreeFault.TreeFault, tree.Expr.Expr, tree.Tree.Tree, tree.Tree.TheOpen.Tree-F}
+use Rattle.qapi_tree.specs.{declared.fault.TreeFault.TreeFault, declared.tree.Expr.Expr, declared.tree.Tree.Tree, declared.tree.Tree.TheOpen.Tree-F, Spelling.has_key}
 use Rattle.qapi_tree.specs.declared.tree.Tree.TheOpen as layer
 use Rattle.qapi_tree.specs.{declared.tree.Tree.TheFolds.fold-Tree, declared.tree.TreeMember.TreeMember, Judging.expressions_of}
-use Rattle.qapi_tree.specs.Spelling.{has_key}
 use Rattle.qm_base.specs.Names.{is_named}
 use Rattle.qapi_load.specs.{Files.NamedText, Files.text_of, declared.fault.LoadFault.LoadFault, declared.fault.LoadRule.LoadRule}
 use Rattle.qapi_load.specs.declared.fault.LoadRule.TheVariants as rule
-use Rattle.qapi_load.specs.declared.{fault.TheConstants.MOST_FILES, reading.Place.Place, reading.Need.Need, reading.Reading.Reading}
+use Rattle.qapi_load.specs.declared.{fault.TheConstants.MOST_FILES, reading.Place.Place, reading.Need.Need, reading.Reading.Reading, source.Source.Source}
 use Rattle.qapi_load.specs.declared.reading.Need.TheVariants as need
-use Rattle.qapi_load.specs.declared.source.Source.{Source}
 
 abbrev pub on : {A B : Type 0} → Result A LoadFault → (A → Result B LoadFault) → Result B LoadFault
 on (Ok x) next = next x

@@ -3,12 +3,10 @@ use Rattle.std.specs.Prelude.{◌≡◌, ◌<◌, ◌≤◌, ◌+◌, ◌-◌, �
 use Rattle.std.specs.Vec.Iter.{into_iter_items}
 use Rattle.qapi_tree.specs.declared.tree.Expr.{Expr}
 use Rattle.qapi_load.specs.{Files.NamedText, declared.fault.LoadFault.LoadFault, declared.fault.TheConstants.MOST_FILES}
-use Rattle.qapi_load.specs.declared.{loading.Loading.Loading, loading.Move.Move}
-use Rattle.qapi_load.specs.declared.loading.{Move.TheVariants.Done, Move.TheVariants.On, Move.TheVariants.Ask, Progress.Progress}
+use Rattle.qapi_load.specs.declared.loading.{Loading.Loading, Move.Move, Move.TheVariants.Done, Move.TheVariants.On, Move.TheVariants.Ask, Progress.Progress}
 use Rattle.qapi_load.specs.declared.loading.Progress.TheVariants as goes
 use Rattle.qapi_load.specs.declared.open_file.{OpenFile.OpenFile, Turn.Turn, Turn.TheVariants.Over, Turn.TheVariants.Stop, Wanted.Wanted}
-use Rattle.qapi_load.specs.declared.{reading.Place.Place, reading.Reading.Reading, source.Source.Source}
-use Rattle.qapi_load.specs.Loading.{on, after_expressions, after_file, finish}
+use Rattle.qapi_load.specs.{declared.reading.Place.Place, declared.reading.Reading.Reading, declared.source.Source.Source, Loading.on, Loading.after_expressions, Loading.after_file, Loading.finish}
 
 -- how a file that is wanted is read
 abbrev pub Read : Type 0

@@ -1,12 +1,10 @@
 -- How many values are still to be looked at.
 use Rattle.std.proofs.Common.{◌≡◌, ◌+◌, ◌<◌, ◌≤◌, drop, get_or, arith, suc, ℕ, List, [], ◌∷◌, ◌++◌, map, length, Result, Ok, Err, IfOk, refl, ap, sym, ◌∙◌}
 use Rattle.std.proofs.Math.Seq.{drop-cons}
-use Rattle.qapi_tree.specs.declared.tree.Tree.{Tree}
+use Rattle.qapi_tree.specs.declared.tree.Tree.{Tree, TheVariants.rolls-Flag, TheVariants.rolls-Str, TheVariants.rolls-List, TheVariants.rolls-Dict}
 use Rattle.qapi_tree.specs.declared.tree.Tree.TheVariants as trees
-use Rattle.qapi_tree.specs.declared.tree.Tree.TheVariants.{rolls-Flag, rolls-Str, rolls-List, rolls-Dict}
 use Rattle.qapi_tree.specs.declared.tree.Tree.TheOpen as layer
-use Rattle.qapi_tree.specs.declared.tree.Tree.TheFolds.{fold-TreeMember, fold-roll-Tree, fold-roll-TreeMember}
-use Rattle.qapi_tree.specs.declared.tree.TreeMember.{TreeMember}
+use Rattle.qapi_tree.specs.declared.tree.{Tree.TheFolds.fold-TreeMember, Tree.TheFolds.fold-roll-Tree, Tree.TheFolds.fold-roll-TreeMember, TreeMember.TreeMember}
 use Rattle.qapi_tree.specs.Asking.{total, count_layer, count_member, count_of, items_count, values_count}
 
 pub pushed : {A : Type 0} (count : A → ℕ) (xs : List A) (x : A) → total count (xs ++ x ∷ []) ≡ total count xs + count x

@@ -1,7 +1,6 @@
 -- Tokens are refused with their first fault and with no other.
 use Rattle.std.proofs.Common.{◌≡◌, ℕ, inl, inr, List, [], ◌∷◌, ◌++◌, Option, Some, None, Result, Ok, Err, refl, ap, sym, ◌∙◌, subst, append_assoc, append-nil}
-use Rattle.qapi_lex.specs.declared.token.{Token.Token, TokenKind.TokenKind}
-use Rattle.qapi_lex.specs.declared.token.TokenKind.TheVariants.{Mark, Flag, Str}
+use Rattle.qapi_lex.specs.declared.token.{Token.Token, TokenKind.TokenKind, TokenKind.TheVariants.Mark, TokenKind.TheVariants.Flag, TokenKind.TheVariants.Str}
 use Rattle.qapi_tree.specs.declared.{fault.TreeFault.TreeFault, fault.TreeRule.TheVariants.DuplicateKey, tree.Expr.Expr}
 use Rattle.qapi_tree.specs.{Faults.fault, Faults.syntax_fault, Judging.first_fault, Judging.unless_faulty, Judging.expressions_of}
 use Rattle.qapi_tree.specs.{Reading.on, Reading.run, Reading.whole, Reading.last_line, Reading.objects_of, Spelling.at, Spelling.SpellsRow}

@@ -1,8 +1,7 @@
 -- What is read as a row of objects spells it.
 use Rattle.std.proofs.Common.{◌≡◌, ◌==◌, ℕ, Bool, true, false, cond, List, [], ◌∷◌, ◌++◌, Result, Ok, Err, refl, ap, sym, ◌∙◌, subst, append_assoc, arith}
 use Rattle.std.proofs.lemmas.{List.append-nil, Bool.Decides.nat_tests}
-use Rattle.qapi_lex.specs.declared.token.{Token.Token, TokenKind.TokenKind}
-use Rattle.qapi_lex.specs.declared.token.TokenKind.TheVariants.{Mark, Flag, Str}
+use Rattle.qapi_lex.specs.declared.token.{Token.Token, TokenKind.TokenKind, TokenKind.TheVariants.Mark, TokenKind.TheVariants.Flag, TokenKind.TheVariants.Str}
 use Rattle.qapi_tree.specs.declared.{fault.TreeFault.TreeFault, stack.Expect.Expect}
 use Rattle.qapi_tree.specs.declared.stack.Expect.TheVariants.{Object, Value, ValueOrEnd, Key, KeyOrEnd, Colon, CommaOrEnd}
 use Rattle.qapi_tree.specs.declared.{stack.Open.Open, tree.Tree.Tree, tree.Expr.Expr, tree.TreeMember.TreeMember}

@@ -2,17 +2,14 @@
 use Rattle.std.proofs.Common.{◌≡◌, ◌+◌, ◌<◌, drop, get_or, arith, suc, ℕ, Bool, true, false, not, ◌&&◌, ◌||◌, List, [], ◌∷◌, map, length, refl, ap, sym, ◌∙◌}
 use Rattle.std.specs.{List.list_all, List.list_any, Str.bytes_eq}
 use Rattle.std.proofs.{Math.Seq.drop-cons, lemmas.List.length-map, lemmas.List.Folds.list_all-map}
-use Rattle.qapi_tree.specs.declared.table.{Form.Form, KeyRule.KeyRule, Shape.Shape, ListRule.ListRule, DictRule.DictRule}
+use Rattle.qapi_tree.specs.declared.{table.Form.Form, table.KeyRule.KeyRule, table.Shape.Shape, table.ListRule.ListRule, table.DictRule.DictRule, table.ShapeRule.ShapeRule, tree.Tree.Tree}
 use Rattle.qapi_tree.specs.declared.table.ListRule.TheVariants as list
-use Rattle.qapi_tree.specs.declared.{table.ShapeRule.ShapeRule, tree.Tree.Tree}
 use Rattle.qapi_tree.specs.declared.table.DictRule.TheVariants as dict
 use Rattle.qapi_tree.specs.declared.tree.Tree.TheVariants as trees
 use Rattle.qapi_tree.specs.declared.tree.Tree.TheVariants.{rolls-Flag, rolls-Str, rolls-List, rolls-Dict}
 use Rattle.qapi_tree.specs.declared.tree.Tree.TheOpen as layer
-use Rattle.qapi_tree.specs.declared.tree.Tree.TheFolds.{fold-TreeMember, fold-roll-Tree, fold-roll-TreeMember}
-use Rattle.qapi_tree.specs.declared.tree.TreeMember.{TreeMember}
-use Rattle.qapi_tree.specs.Asking.{Asks, values_have, member_fits, members_fit, list_fits, dict_fits}
-use Rattle.qapi_tree.specs.Spelling.{has_key}
+use Rattle.qapi_tree.specs.declared.tree.{Tree.TheFolds.fold-TreeMember, Tree.TheFolds.fold-roll-Tree, Tree.TheFolds.fold-roll-TreeMember, TreeMember.TreeMember}
+use Rattle.qapi_tree.specs.{Asking.Asks, Asking.values_have, Asking.member_fits, Asking.members_fit, Asking.list_fits, Asking.dict_fits, Spelling.has_key}
 use Rattle.qapi_tree.specs.Shapes.{key_in, is_needed, KeyAndShapes, rule_for, fits_rule, takes_text, takes_flag, takes_list, takes_dict, shape_layer, member_layer, has_shape}
 use Rattle.qapi_tree.specs.Table.{name, keys, rule_of}
 

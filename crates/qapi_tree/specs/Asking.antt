@@ -3,9 +3,8 @@
 use Rattle.std.specs.Prelude.{◌≡◌, ℕ, ◌+◌, Bool, ◌&&◌, List, [], ◌∷◌}
 use Rattle.std.specs.List.{list_all}
 use Rattle.qapi_tree.specs.declared.{shapes.Wanted.Wanted, table.Form.Form, table.Shape.Shape, table.ListRule.ListRule}
-use Rattle.qapi_tree.specs.declared.{table.DictRule.DictRule, tree.Tree.Tree, tree.Tree.TheOpen.Tree-F, tree.Tree.TheOpen.TreeMember-F}
+use Rattle.qapi_tree.specs.declared.{table.DictRule.DictRule, tree.Tree.Tree, tree.Tree.TheOpen.Tree-F, tree.Tree.TheOpen.TreeMember-F, tree.Tree.TheFolds.fold-Tree, tree.TreeMember.TreeMember}
 use Rattle.qapi_tree.specs.declared.tree.Tree.TheOpen as layer
-use Rattle.qapi_tree.specs.declared.tree.{Tree.TheFolds.fold-Tree, TreeMember.TreeMember}
 use Rattle.qapi_tree.specs.Shapes.{rule_for, fits_rule, has_needed, takes_list, takes_dict, has_shape}
 
 -- the sum of what is counted of each item

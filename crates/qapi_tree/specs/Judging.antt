@@ -4,13 +4,10 @@
 use Rattle.std.specs.Prelude.{ℕ, not, ◌&&◌, List, [], ◌∷◌, Option, Some, None, find, Result, Ok, Err}
 use Rattle.std.specs.{Option.option_map, Option.option_or, Option.is_none, List.filter}
 use Rattle.qapi_lex.specs.declared.token.Token.{Token}
-use Rattle.qapi_tree.specs.declared.fault.TreeFault.{TreeFault}
-use Rattle.qapi_tree.specs.declared.fault.TreeRule.TheVariants.{UnknownKey, MissingKey, WrongShape}
-use Rattle.qapi_tree.specs.declared.{table.Form.Form, table.KeyRule.KeyRule, table.KindRule.KindRule, tree.Expr.Expr}
+use Rattle.qapi_tree.specs.declared.fault.{TreeFault.TreeFault, TreeRule.TheVariants.UnknownKey, TreeRule.TheVariants.MissingKey, TreeRule.TheVariants.WrongShape}
+use Rattle.qapi_tree.specs.{declared.table.Form.Form, declared.table.KeyRule.KeyRule, declared.table.KindRule.KindRule, declared.tree.Expr.Expr, Reading.on, Reading.objects_of}
 use Rattle.qapi_tree.specs.{declared.tree.TreeMember.TreeMember, Faults.fault, Faults.syntax_fault, Spelling.has_key}
-use Rattle.qapi_tree.specs.Reading.{on, objects_of}
-use Rattle.qapi_tree.specs.Shapes.{key_in, is_needed, rule_for, fits_rule, has_shape}
-use Rattle.qapi_tree.specs.Table.{name, keys, kinds}
+use Rattle.qapi_tree.specs.{Shapes.key_in, Shapes.is_needed, Shapes.rule_for, Shapes.fits_rule, Shapes.has_shape, Table.name, Table.keys, Table.kinds}
 
 -- the form of an expression of one kind
 abbrev pub only_form : List KindRule → Option Form

@@ -1,13 +1,11 @@
 -- Which values are of which shape (QAPI code generation guide, "Schema syntax").
 use Rattle.std.specs.Prelude.{ℕ, ◌==◌, Bool, true, false, not, ◌&&◌, ◌||◌, List, length, Option, Some, None, find}
 use Rattle.std.specs.{List.list_all, List.list_any, Str.bytes_eq}
-use Rattle.qapi_tree.specs.declared.table.{Key.Key, Form.Form, Shape.Shape, KeyRule.KeyRule}
-use Rattle.qapi_tree.specs.declared.table.{KeyRule.TheVariants.Needed, KeyRule.TheVariants.Optional, ScalarRule.ScalarRule}
+use Rattle.qapi_tree.specs.declared.table.{Key.Key, Form.Form, Shape.Shape, KeyRule.KeyRule, KeyRule.TheVariants.Needed, KeyRule.TheVariants.Optional, ScalarRule.ScalarRule}
 use Rattle.qapi_tree.specs.declared.table.ScalarRule.TheVariants as scalar
-use Rattle.qapi_tree.specs.declared.{table.ListRule.ListRule, table.DictRule.DictRule, tree.Tree.Tree}
+use Rattle.qapi_tree.specs.declared.{table.ListRule.ListRule, table.DictRule.DictRule, tree.Tree.Tree, tree.Tree.TheOpen.Tree-F, tree.Tree.TheOpen.TreeMember-F, tree.Tree.TheFolds.fold-Tree}
 use Rattle.qapi_tree.specs.declared.table.ListRule.TheVariants as list
 use Rattle.qapi_tree.specs.declared.table.DictRule.TheVariants as dict
-use Rattle.qapi_tree.specs.declared.tree.Tree.{TheOpen.Tree-F, TheOpen.TreeMember-F, TheFolds.fold-Tree}
 use Rattle.qapi_tree.specs.declared.tree.Tree.TheOpen as layer
 use Rattle.qapi_tree.specs.Table.{name, keys, rule_of}
 

@@ -2,8 +2,7 @@
 -- syntax"; that keys are distinct is this project's own rule).
 use Rattle.std.specs.Prelude.{◌≡◌, ℕ, Bool, false, List, [], ◌∷◌, ◌++◌}
 use Rattle.std.specs.{List.list_any, Str.bytes_eq}
-use Rattle.qapi_lex.specs.declared.token.{Token.Token, TokenKind.TokenKind}
-use Rattle.qapi_lex.specs.declared.token.TokenKind.TheVariants.{Mark, Flag, Str}
+use Rattle.qapi_lex.specs.declared.token.{Token.Token, TokenKind.TokenKind, TokenKind.TheVariants.Mark, TokenKind.TheVariants.Flag, TokenKind.TheVariants.Str}
 use Rattle.qapi_tree.specs.declared.tree.{Tree.Tree, Expr.Expr, TreeMember.TreeMember}
 use Rattle.qapi_tree.specs.declared.tree.Tree.TheVariants as trees
 

@@ -1,8 +1,7 @@
 -- What is open while expressions are read, and what may stand next (QAPI code generation guide,
 -- "Schema syntax": a file is a row of objects).
 use Rattle.std.specs.Prelude.{ℕ, Bool, true, false, List, [], ◌∷◌, ◌++◌}
-use Rattle.qapi_tree.specs.declared.stack.Expect.{Expect}
-use Rattle.qapi_tree.specs.declared.stack.Expect.TheVariants.{Object, Value, ValueOrEnd, Key, KeyOrEnd, CommaOrEnd}
+use Rattle.qapi_tree.specs.declared.stack.Expect.{Expect, TheVariants.Object, TheVariants.Value, TheVariants.ValueOrEnd, TheVariants.Key, TheVariants.KeyOrEnd, TheVariants.CommaOrEnd}
 use Rattle.qapi_tree.specs.declared.{stack.Open.Open, tree.Tree.Tree, tree.TreeMember.TreeMember}
 use Rattle.qapi_tree.specs.declared.stack.Open.TheVariants as opens
 use Rattle.qapi_tree.specs.declared.tree.Tree.TheVariants as trees

@@ -2,8 +2,7 @@
 -- already (QAPI code generation guide, "Schema syntax"; the order of the faults is this project's own
 -- rule).
 use Rattle.std.specs.Prelude.{ℕ, ◌==◌, cond, List, [], ◌∷◌, Result, Ok, Err}
-use Rattle.qapi_lex.specs.declared.token.{Token.Token, TokenKind.TokenKind}
-use Rattle.qapi_lex.specs.declared.token.TokenKind.TheVariants.{Mark, Flag, Str}
+use Rattle.qapi_lex.specs.declared.token.{Token.Token, TokenKind.TokenKind, TokenKind.TheVariants.Mark, TokenKind.TheVariants.Flag, TokenKind.TheVariants.Str}
 use Rattle.qapi_tree.specs.declared.{fault.TreeFault.TreeFault, fault.TreeRule.TheVariants.DuplicateKey, stack.Expect.Expect}
 use Rattle.qapi_tree.specs.declared.stack.Expect.TheVariants.{Value, ValueOrEnd, KeyOrEnd, Colon, CommaOrEnd}
 use Rattle.qapi_tree.specs.{declared.stack.Open.Open, declared.tree.Tree.Tree, Faults.fault, Faults.syntax_fault, Spelling.has_key}

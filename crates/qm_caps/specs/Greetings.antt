@@ -1,8 +1,7 @@
 -- The greeting of a session (QMP specification, "Server Greeting"); the numbers and the package of
 -- the version are this project's own rule.
 use Rattle.std.specs.Prelude.{List, [], ◌∷◌, ℕ, pos, codes}
-use Rattle.qm_json.specs.declared.value.Json.{Json, TheVariants.Int, TheVariants.Str, TheVariants.Arr, TheVariants.Obj}
-use Rattle.qm_json.specs.declared.value.Member.{Member}
+use Rattle.qm_json.specs.declared.value.{Json.Json, Json.TheVariants.Int, Json.TheVariants.Str, Json.TheVariants.Arr, Json.TheVariants.Obj, Member.Member}
 
 abbrev pub named : List ℕ → Json → Member
 named name value = record { name = name; value = value }

@@ -2,8 +2,7 @@
 use Rattle.std.proofs.Common.{◌≡◌, ℕ, ◌==◌, true, false, ◌||◌, List, [], ◌∷◌, ◌++◌, reverse, refl, ap, append_assoc, ◌∙◌, subst, inl, inr}
 use Rattle.std.specs.List.{list_any}
 use Rattle.std.proofs.lemmas.{List.reverse-append, Bool.and_parts, Bool.or_cases, Bool.Decides.Decides-eqb}
-use Rattle.qm_core.specs.declared.entries.Entry.{Entry}
-use Rattle.qm_core.specs.declared.entries.Entry.TheVariants.{Open, Admit, Start, Done, Take, Eof, Drop}
+use Rattle.qm_core.specs.declared.entries.Entry.{Entry, TheVariants.Open, TheVariants.Admit, TheVariants.Start, TheVariants.Done, TheVariants.Take, TheVariants.Eof, TheVariants.Drop}
 use Rattle.qm_core.specs.{Legal.past_of, Legal.AllFollow, Legal.IsLegal, Order.MayFollow}
 use Rattle.qm_core.specs.Standing.{sessions_of, was_opened, is_dropped}
 

@@ -12,9 +12,7 @@ use Rattle.qm_core.specs.Kept.{IsPlaced, IsSession, IsFirstOpen, IsRunning, IsSo
 use Rattle.qm_core.specs.{Legal.past_of, Order.MayFollow, Replies.reply_to, Replies.is_return}
 use Rattle.qm_core.specs.Standing.{sessions_of, is_ended, open_count_of, admitted_of, in_flight_of, mode_of, running_of, negotiates, last_moment_of}
 use Rattle.qm_core.specs.Texts.{entry_text_of}
-use Rattle.qm_core.proofs.Journals.{legal-append, past_of-append}
-use Rattle.qm_core.proofs.KeptSessions.{kept-admit, kept-done, kept-open, none_waits}
-use Rattle.qm_core.proofs.Texts.{text_more}
+use Rattle.qm_core.proofs.{Journals.legal-append, Journals.past_of-append, KeptSessions.kept-admit, KeptSessions.kept-done, KeptSessions.kept-open, KeptSessions.none_waits, Texts.text_more}
 
 -- the fields after one more entry are sound
 pub after_entry : (m : Fields) (e : Entry) (journal : Reserved Entry) (bytes : ℕ) (session : Session) (running : Option Request) (moment : ℕ) → IsSound m →

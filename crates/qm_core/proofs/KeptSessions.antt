@@ -1,16 +1,13 @@
 -- What is kept of the first session, and one more entry.
 use Rattle.std.proofs.Common.{◌≡◌, ℕ, ◌+◌, ◌<◌, ◌==◌, ◌≢◌, Bool, true, false, not, cond, ◌&&◌, ◌||◌, Option, Some, None, List, [], ◌∷◌, ◌++◌, length, drop, refl, ap, sym, ◌∙◌, arith}
 use Rattle.std.specs.List.{list_any}
-use Rattle.std.proofs.lemmas.{Bool.or_parts, List.nil_from_length, List.Folds.list_any-append, List.Sums.sum_by-cons}
-use Rattle.std.proofs.lemmas.Bool.Decides.{nat_tests}
+use Rattle.std.proofs.lemmas.{Bool.or_parts, List.nil_from_length, List.Folds.list_any-append, List.Sums.sum_by-cons, Bool.Decides.nat_tests}
 use Rattle.qm_json.specs.{Printing.printed, declared.value.Json.Json}
 use Rattle.qm_caps.specs.{Greetings.greeting_value, Modes.bound_of, declared.mode.Lane.TheVariants.InBand, declared.mode.Mode.Mode}
 use Rattle.qm_caps.specs.declared.mode.Mode.TheVariants.{Command}
-use Rattle.qm_core.specs.declared.entries.Entry.{Entry}
-use Rattle.qm_core.specs.declared.entries.Entry.TheVariants.{Open, Admit, Start, Done, Take, Eof, Drop}
-use Rattle.qm_core.specs.declared.{inputs.Input.Input, requests.Request.Request, sessions.Session.Session}
+use Rattle.qm_core.specs.declared.entries.Entry.{Entry, TheVariants.Open, TheVariants.Admit, TheVariants.Start, TheVariants.Done, TheVariants.Take, TheVariants.Eof, TheVariants.Drop}
+use Rattle.qm_core.specs.{declared.inputs.Input.Input, declared.requests.Request.Request, declared.sessions.Session.Session, Replies.is_return}
 use Rattle.qm_core.specs.{Kept.IsSession, Kept.IsFirstOpen, Kept.Waits, Kept.answered, Kept.fits, Kept.sent, Legal.AllFollow}
-use Rattle.qm_core.specs.Replies.{is_return}
 use Rattle.qm_core.specs.Standing.{sessions_of, was_opened, is_open, is_dropped, open_count_of, admits, admitted_of, in_flight_of, mode_of, waiting_of, running_of, negotiates}
 use Rattle.qm_core.specs.Transcript.{Candidate, candidates_of, has_overrun, taken_of, untaken_of, with_line}
 use Rattle.qm_core.proofs.{Candidates.any_overruns, Candidates.kept_lines, Journals.dropped_opened}

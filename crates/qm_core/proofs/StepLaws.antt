@@ -7,8 +7,7 @@ use Rattle.qm_caps.specs.Modes.{bound_of}
 use Rattle.qm_core.specs.declared.{TheConstants.MOST_SESSIONS, entries.Entry.Entry, entries.StepFault.StepFault}
 use Rattle.qm_core.specs.declared.entries.Entry.TheVariants as entry
 use Rattle.qm_core.specs.declared.entries.StepFault.TheVariants.{NoSession, Closed, InputEnded, Busy, Nothing, NotRunning, SessionsFull}
-use Rattle.qm_core.specs.declared.{monitor.Limits.Limits, requests.Request.Request, requests.RequestName.RequestName}
-use Rattle.qm_core.specs.Legal.{past_of, AllFollow, IsLegal}
+use Rattle.qm_core.specs.{declared.monitor.Limits.Limits, declared.requests.Request.Request, declared.requests.RequestName.RequestName, Legal.past_of, Legal.AllFollow, Legal.IsLegal}
 use Rattle.qm_core.specs.Next.{Next, View, Step, Open, Admit, Start, Finish, Take, End, Drop, IsCleanStep, entry_of, start_entry, refusal_of, full_refusal, session_refusal, cause_fault, names, is_running}
 use Rattle.qm_core.specs.Order.{MayFollow, cause_holds}
 use Rattle.qm_core.specs.Standing.{sessions_of, was_opened, is_dropped, is_ended, is_open, in_flight_of, mode_of, running_of, starting_of, named_of, last_moment_of}

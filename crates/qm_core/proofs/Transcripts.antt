@@ -3,8 +3,7 @@ use Rattle.std.proofs.Common.{◌≡◌, ℕ, ◌==◌, Bool, true, false, not, 
 use Rattle.std.proofs.{Math.Seq.drop-append_seam, Math.Seq.drop-length, lemmas.Bool.Decides.Decides-eqb}
 use Rattle.qm_base.specs.Prefixes.{IsPrefix}
 use Rattle.qm_base.proofs.Prefixes.{empty_prefix, trans_prefix, left_prefix, refl_prefix}
-use Rattle.qm_core.specs.declared.entries.Entry.{Entry}
-use Rattle.qm_core.specs.declared.entries.Entry.TheVariants.{Open, Admit, Start, Done, Take, Eof, Drop}
+use Rattle.qm_core.specs.declared.entries.Entry.{Entry, TheVariants.Open, TheVariants.Admit, TheVariants.Start, TheVariants.Done, TheVariants.Take, TheVariants.Eof, TheVariants.Drop}
 use Rattle.qm_core.specs.{Legal.AllFollow, Standing.is_open, Kept.fits}
 use Rattle.qm_core.specs.Transcript.{Candidate, candidates_of, has_overrun, transcript_of, taken_of, untaken_of, with_line}
 use Rattle.qm_core.proofs.Candidates.{any_overruns, kept_lines, overruns-more, lines-more}

@@ -9,9 +9,8 @@ use Rattle.qm_core.specs.declared.entries.Entry.TheVariants.{Open, Admit, Start,
 use Rattle.qm_core.specs.declared.inputs.{BadInput.BadInput, FrameWord.FrameWord}
 use Rattle.qm_core.specs.declared.inputs.BadInput.TheVariants as bad
 use Rattle.qm_core.specs.declared.inputs.FrameWord.TheVariants.{LexError, Unbalanced, TooDeep, TooLong}
-use Rattle.qm_core.specs.declared.inputs.{Input.Input, JsonWord.JsonWord}
+use Rattle.qm_core.specs.declared.inputs.{Input.Input, JsonWord.JsonWord, JsonWord.TheVariants.Expected, JsonWord.TheVariants.Duplicate, JsonWord.TheVariants.BadEscape, JsonWord.TheVariants.BadUtf8}
 use Rattle.qm_core.specs.declared.inputs.Input.TheVariants as input
-use Rattle.qm_core.specs.declared.inputs.JsonWord.TheVariants.{Expected, Duplicate, BadEscape, BadUtf8}
 
 abbrev pub frame_word_of : FrameWord → List ℕ
 frame_word_of LexError = codes "lex-error"

@@ -7,9 +7,8 @@ use Rattle.qm_json.specs.{declared.value.Json.Json, declared.value.Member.Member
 use Rattle.qm_caps.specs.declared.mode.Mode.{Mode}
 use Rattle.qm_caps.specs.declared.mode.Mode.TheVariants as mode
 use Rattle.qm_core.specs.{Inputs.is_object, Inputs.string_of, Inputs.is_verb, declared.inputs.Input.Input}
-use Rattle.qm_core.specs.declared.{inputs.Input.TheVariants.Doc, inputs.Input.TheVariants.Bad, verdicts.Command.Command}
+use Rattle.qm_core.specs.declared.{inputs.Input.TheVariants.Doc, inputs.Input.TheVariants.Bad, verdicts.Command.Command, verdicts.Refusal.Refusal}
 use Rattle.qm_core.specs.declared.verdicts.Command.TheVariants as command
-use Rattle.qm_core.specs.declared.verdicts.Refusal.{Refusal}
 use Rattle.qm_core.specs.declared.verdicts.Refusal.TheVariants.{BadInput as Malformed, NotAnObject, UnexpectedMember, TwoVerbs, NoVerb, VerbNoString, ArgumentsNoObject, NegotiationExpected, NegotiationComplete, UnknownCommand, UnexpectedArgument}
 use Rattle.qm_core.specs.declared.verdicts.Verdict.{Verdict, TheVariants.Refused, TheVariants.Run}
 

@@ -3,8 +3,7 @@ use Rattle.std.proofs.Common.{◌≡◌, ℕ, ◌+◌, ◌<◌, Bool, true, fals
 use Rattle.std.specs.Option.{option_or}
 use Rattle.qm_base.specs.Search.{Piece, Final, Found, after_front, joined, Grows}
 use Rattle.qm_base.proofs.SearchLemmas.{cond-grows, found_after-more}
-use Rattle.qm_frame.specs.declared.step.FrameFault.{FrameFault, TheVariants.LexError}
-use Rattle.qm_frame.specs.Bytes.{is_space, is_closer, is_opener, is_reset}
+use Rattle.qm_frame.specs.{declared.step.FrameFault.FrameFault, declared.step.FrameFault.TheVariants.LexError, Bytes.is_space, Bytes.is_closer, Bytes.is_opener, Bytes.is_reset}
 use Rattle.qm_frame.specs.Messages.{is_open, is_message, fault_of}
 use Rattle.qm_frame.specs.Framing.{NextFrame, Residue, Between, Inside, Skipping, skipped_to, after_recovery, closed_by, first_closed, front_of, framing_of, frames_of, residue_of}
 use Rattle.qm_frame.specs.Machine.{nothing, step}

@@ -2,11 +2,9 @@
 use Rattle.std.proofs.Common.{◌≡◌, ℕ, ◌+◌, ◌-◌, ◌≤◌, ◌==◌, inl, inr, Bool, true, false, cond, List, [], ◌∷◌, ◌++◌, count_by, refl, ap, sym, ◌∙◌, arith}
 use Rattle.std.proofs.lemmas.{Bool.cases_Bool, Bool.Decides.nat_tests, List.Sums.sum_by-append}
 use Rattle.qm_base.specs.Search.{Found}
-use Rattle.qm_frame.specs.declared.piece.LastPiece.{LastPiece}
-use Rattle.qm_frame.specs.declared.piece.LastPiece.TheVariants.{Whole, Number, Word, Str, Escape, Broken}
+use Rattle.qm_frame.specs.declared.piece.LastPiece.{LastPiece, TheVariants.Whole, TheVariants.Number, TheVariants.Word, TheVariants.Str, TheVariants.Escape, TheVariants.Broken}
 use Rattle.qm_frame.specs.Bytes.{is_single, is_opener, is_closer, begins_number, in_number, is_letter, is_quote, is_barred}
-use Rattle.qm_frame.specs.Pieces.{pieces, level_of, is_broken}
-use Rattle.qm_frame.specs.Machine.{begun, moved, hides, depth_after}
+use Rattle.qm_frame.specs.{Pieces.pieces, Pieces.level_of, Pieces.is_broken, Machine.begun, Machine.moved, Machine.hides, Machine.depth_after}
 use Rattle.qm_frame.proofs.PieceLemmas.{pieces-more}
 
 no-answers : (b : Bool) (f g : Found ℕ LastPiece) → f.answers ≡ [] → g.answers ≡ [] → (cond b f g).answers ≡ []

@@ -3,11 +3,9 @@ use Rattle.std.proofs.Common.{◌≡◌, ℕ, ◌+◌, ◌<◌, ◌==◌, Bool, 
 use Rattle.std.specs.Option.{option_or}
 use Rattle.qm_base.specs.Search.{Front, Piece, Final, Found, after_front, joined, Grows}
 use Rattle.qm_base.proofs.SearchLemmas.{cond-grows, found_after-more}
-use Rattle.qm_frame.specs.declared.piece.LastPiece.{LastPiece}
-use Rattle.qm_frame.specs.declared.piece.LastPiece.TheVariants.{Whole, Number, Word, Str, Escape, Broken}
+use Rattle.qm_frame.specs.declared.piece.LastPiece.{LastPiece, TheVariants.Whole, TheVariants.Number, TheVariants.Word, TheVariants.Str, TheVariants.Escape, TheVariants.Broken}
 use Rattle.qm_frame.specs.Bytes.{is_single, begins_number, in_number, is_letter, is_quote, is_barred}
-use Rattle.qm_frame.specs.Pieces.{run_to, one_later, quoted, piece, pieces}
-use Rattle.qm_frame.specs.Machine.{ends_in, begun, moved}
+use Rattle.qm_frame.specs.{Pieces.run_to, Pieces.one_later, Pieces.quoted, Pieces.piece, Pieces.pieces, Machine.ends_in, Machine.begun, Machine.moved}
 use Rattle.qm_frame.proofs.Positions.{position-more, position-below}
 
 abbrev Next : ℕ → ℕ → Front ℕ LastPiece → Front ℕ LastPiece → Type 0

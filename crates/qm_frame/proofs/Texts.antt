@@ -2,13 +2,11 @@
 use Rattle.std.proofs.Common.{◌≡◌, ℕ, ◌<◌, ◌==◌, nat_lt, Bool, true, false, not, cond, ◌&&◌, List, [], ◌∷◌, ◌++◌, length, Ok, Err, refl, arith, ◌⊎◌, inl, inr}
 use Rattle.std.proofs.lemmas.Bool.{and_parts, Decides.nat_tests}
 use Rattle.qm_base.specs.Search.{Piece, Final, after_front}
-use Rattle.qm_frame.specs.declared.step.{FrameFault.FrameFault, TheConstants.MAX_LENGTH, TheConstants.MAX_DEPTH}
-use Rattle.qm_frame.specs.declared.piece.LastPiece.{LastPiece}
+use Rattle.qm_frame.specs.declared.{step.FrameFault.FrameFault, step.TheConstants.MAX_LENGTH, step.TheConstants.MAX_DEPTH, piece.LastPiece.LastPiece}
 use Rattle.qm_frame.specs.declared.piece.LastPiece.TheVariants.{Whole, Number, Word, Str, Escape, Broken}
 use Rattle.qm_frame.specs.declared.judging.Judged.{Judged, TheVariants.Taken, TheVariants.Ends, TheVariants.Wrong}
 use Rattle.qm_frame.specs.{declared.judging.State.State, Bytes.is_opener, Bytes.is_barred, Bytes.is_reset, Messages.is_open}
-use Rattle.qm_frame.specs.Framing.{Between, Inside, Skipping}
-use Rattle.qm_frame.specs.Machine.{is_plain, state_of, judged, is_run, IsWithin, nothing, step}
+use Rattle.qm_frame.specs.{Framing.Between, Framing.Inside, Framing.Skipping, Machine.is_plain, Machine.state_of, Machine.judged, Machine.is_run, Machine.IsWithin, Machine.nothing, Machine.step}
 use Rattle.qm_frame.proofs.Opens.{is_open-within, Judges, judged-judges}
 
 -- text is what a framing holds, and now the same as contracts see it

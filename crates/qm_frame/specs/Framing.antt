@@ -5,8 +5,7 @@ use Rattle.std.specs.Prelude.{ℕ, ◌+◌, cond, List, [], ◌∷◌, ◌++◌,
 use Rattle.qm_base.specs.Search.{Front, Piece, Final, Found, found_after}
 use Rattle.qm_frame.specs.declared.step.FrameFault.{FrameFault, TheVariants.LexError, TheVariants.Unbalanced}
 use Rattle.qm_frame.specs.declared.step.Step.{Step, TheVariants.More, TheVariants.Frame, TheVariants.Bad}
-use Rattle.qm_frame.specs.Bytes.{is_space, is_opener, is_closer, is_reset}
-use Rattle.qm_frame.specs.Messages.{is_open, is_message, fault_of}
+use Rattle.qm_frame.specs.{Bytes.is_space, Bytes.is_opener, Bytes.is_closer, Bytes.is_reset, Messages.is_open, Messages.is_message, Messages.fault_of}
 
 -- what the end of the bytes leaves unfinished: nothing, a message, or a recovery without a reset byte
 pub data Residue : Type 0 where

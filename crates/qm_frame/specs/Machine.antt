@@ -3,12 +3,9 @@
 use Rattle.std.specs.Prelude.{◌≡◌, ◌≤◌, ℕ, ◌+◌, ◌-◌, ◌==◌, nat_lt, Bool, true, false, not, cond, ◌&&◌, List, [], ◌∷◌, ◌++◌, Result}
 use Rattle.qm_base.specs.Search.{Found, after_front}
 use Rattle.qm_frame.specs.declared.step.FrameFault.{FrameFault, TheVariants.LexError, TheVariants.TooDeep, TheVariants.TooLong}
-use Rattle.qm_frame.specs.declared.step.{TheConstants.MAX_LENGTH, TheConstants.MAX_DEPTH, Step.Step}
-use Rattle.qm_frame.specs.declared.step.Step.TheVariants.{More, Frame, Bad}
-use Rattle.qm_frame.specs.declared.piece.LastPiece.{LastPiece}
-use Rattle.qm_frame.specs.declared.piece.LastPiece.TheVariants.{Whole, Number, Word, Str, Escape, Broken}
-use Rattle.qm_frame.specs.declared.judging.Judged.{Judged, TheVariants.Taken, TheVariants.Ends, TheVariants.Wrong}
-use Rattle.qm_frame.specs.declared.{judging.State.State, framer.Mode.Mode}
+use Rattle.qm_frame.specs.declared.step.{TheConstants.MAX_LENGTH, TheConstants.MAX_DEPTH, Step.Step, Step.TheVariants.More, Step.TheVariants.Frame, Step.TheVariants.Bad}
+use Rattle.qm_frame.specs.declared.piece.LastPiece.{LastPiece, TheVariants.Whole, TheVariants.Number, TheVariants.Word, TheVariants.Str, TheVariants.Escape, TheVariants.Broken}
+use Rattle.qm_frame.specs.declared.{judging.Judged.Judged, judging.Judged.TheVariants.Taken, judging.Judged.TheVariants.Ends, judging.Judged.TheVariants.Wrong, judging.State.State, framer.Mode.Mode}
 use Rattle.qm_frame.specs.declared.framer.Mode.TheVariants as modes
 use Rattle.qm_frame.specs.Bytes.{is_single, is_opener, is_closer, begins_number, in_number, is_letter, is_quote, is_barred, is_reset}
 use Rattle.qm_frame.specs.{Pieces.pieces, Pieces.level_of, Pieces.is_broken, Messages.is_open}

@@ -2,8 +2,7 @@
 -- strings (RFC 8259, section 2, before any look at what a run or a string holds).
 use Rattle.std.specs.Prelude.{ℕ, ◌+◌, ◌-◌, ◌==◌, Bool, true, false, not, cond, ◌&&◌, List, [], ◌∷◌, count_by, position, Option, Some, None}
 use Rattle.qm_base.specs.Search.{Front, Piece, Final, Found, found_after}
-use Rattle.qm_frame.specs.declared.piece.LastPiece.{LastPiece}
-use Rattle.qm_frame.specs.declared.piece.LastPiece.TheVariants.{Whole, Number, Word, Str, Escape, Broken}
+use Rattle.qm_frame.specs.declared.piece.LastPiece.{LastPiece, TheVariants.Whole, TheVariants.Number, TheVariants.Word, TheVariants.Str, TheVariants.Escape, TheVariants.Broken}
 use Rattle.qm_frame.specs.Bytes.{is_single, is_opener, is_closer, begins_number, in_number, is_letter, is_quote, is_barred}
 
 -- a run takes the bytes before the first that is not of its sort; without one the text ends in it

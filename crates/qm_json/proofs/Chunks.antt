@@ -1,9 +1,8 @@
 -- The code points of bytes, chunk by chunk, and of a text, one by one.
 use Rattle.std.proofs.Common.{◌≡◌, ℕ, ◌<◌, Bool, true, false, not, cond, ◌==◌, List, [], ◌∷◌, ◌++◌, length, drop, IsUtf8, refl, ap, sym, ◌∙◌, arith, append_assoc, append-nil}
-use Rattle.std.specs.Str.{chars, Lossy.utf8_lossy, Lossy.utf8_valid_len, Lossy.utf8_invalid_len, Lossy.replacement_bytes}
+use Rattle.std.specs.{Str.chars, Str.Lossy.utf8_lossy, Str.Lossy.utf8_valid_len, Str.Lossy.utf8_invalid_len, Str.Lossy.replacement_bytes, Char.encode_utf8}
 use Rattle.std.proofs.lemmas.Str.{chars-append, chars_past_char, utf8_lossy_chunk, utf8_lossy_last_chunk, utf8_lossy_empty, chars-nil, IsUtf8-encode}
 use Rattle.std.proofs.lemmas.{Grind.flat_map-append, Bool.Decides.nat_tests}
-use Rattle.std.specs.Char.{encode_utf8}
 use Rattle.qm_json.specs.Strings.{code_points, escaped, escapes, chunk_escapes}
 
 replacement_char : chars replacement_bytes ≡ 0xFFFD ∷ []

@@ -3,10 +3,9 @@ use Rattle.std.proofs.Common.{◌≡◌, ℕ, Bool, true, not, ◌&&◌, List, [
 use Rattle.std.specs.Prelude.{ℤ}
 use Rattle.std.specs.{List.list_all, Str.is_utf8}
 use Rattle.std.proofs.lemmas.List.Folds.{list_all-map}
-use Rattle.qm_json.specs.declared.value.{Json.Json, Member.Member}
+use Rattle.qm_json.specs.declared.value.{Json.Json, Member.Member, Json.TheFolds.fold-Member, Json.TheFolds.fold-roll-Json, Json.TheFolds.fold-roll-Member}
 use Rattle.qm_json.specs.declared.value.Json.TheVariants as json
 use Rattle.qm_json.specs.declared.value.Json.TheOpen as layer
-use Rattle.qm_json.specs.declared.value.Json.TheFolds.{fold-Member, fold-roll-Json, fold-roll-Member}
 use Rattle.qm_json.specs.declared.value.Json.TheVariants.{rolls-Null, rolls-Bool, rolls-Int, rolls-Num, rolls-Str, rolls-Arr, rolls-Obj}
 use Rattle.qm_json.specs.Numbers.{is_literal, is_whole_literal, is_in_whole_range}
 use Rattle.qm_json.specs.Cleanness.{is_clean, is_clean_member, are_distinct, clean_layer, clean_member_layer, NameAndTest}

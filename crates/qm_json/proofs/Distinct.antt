@@ -1,8 +1,7 @@
 -- Members with distinct names.
 use Rattle.std.proofs.Common.{◌≡◌, ℕ, true, false, not, List, [], ◌∷◌, ◌++◌, map, refl, ap, sym}
 use Rattle.std.specs.{List.list_any, Str.bytes_eq}
-use Rattle.std.proofs.lemmas.Bool.{and_from, and_parts, or_from, or_parts, not-true, false_from_ne_true, both_ways}
-use Rattle.std.proofs.lemmas.Slice.Eq.{bytes_eq-Decides}
+use Rattle.std.proofs.lemmas.{Bool.and_from, Bool.and_parts, Bool.or_from, Bool.or_parts, Bool.not-true, Bool.false_from_ne_true, Bool.both_ways, Slice.Eq.bytes_eq-Decides}
 use Rattle.qm_json.specs.{declared.value.Member.Member, Cleanness.are_distinct, Members.has_name}
 
 abbrev pub names : List Member → List (List ℕ)

@@ -4,9 +4,8 @@
 use Rattle.std.specs.Prelude.{ℕ, Bool, true, not, ◌&&◌, List, [], ◌∷◌, map, IsTrue}
 use Rattle.std.specs.{List.list_all, List.list_any, Str.bytes_eq, Str.is_utf8}
 use Rattle.qm_json.specs.{Numbers.is_literal, Numbers.is_whole_literal, Numbers.is_in_whole_range, declared.value.Json.Json}
-use Rattle.qm_json.specs.declared.value.Json.{TheOpen.Json-F, TheOpen.Member-F, TheFolds.fold-Json, TheFolds.fold-Member}
+use Rattle.qm_json.specs.declared.value.{Json.TheOpen.Json-F, Json.TheOpen.Member-F, Json.TheFolds.fold-Json, Json.TheFolds.fold-Member, Member.Member}
 use Rattle.qm_json.specs.declared.value.Json.TheOpen as layer
-use Rattle.qm_json.specs.declared.value.Member.{Member}
 
 -- what the layer above asks of a member
 pub record NameAndTest : Type 0 where

@@ -1,8 +1,7 @@
 -- How deep a value is nested (RFC 8259, section 9).
 use Rattle.std.specs.Prelude.{ℕ, ◌+◌, max, List, [], ◌∷◌}
-use Rattle.qm_json.specs.declared.value.Json.{Json, TheOpen.Json-F, TheOpen.Member-F, TheFolds.fold-Json, TheFolds.fold-Member}
+use Rattle.qm_json.specs.declared.value.{Json.Json, Json.TheOpen.Json-F, Json.TheOpen.Member-F, Json.TheFolds.fold-Json, Json.TheFolds.fold-Member, Member.Member}
 use Rattle.qm_json.specs.declared.value.Json.TheOpen as layer
-use Rattle.qm_json.specs.declared.value.Member.{Member}
 
 -- the greatest of some depths, and 0 of none
 abbrev pub deepest : List ℕ → ℕ

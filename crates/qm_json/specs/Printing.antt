@@ -2,9 +2,8 @@
 use Rattle.std.specs.Prelude.{ℕ, ◌^◌, ◌-◌, min, Bool, true, false, cond, List, [], ◌∷◌, ◌++◌, codes, flat_map}
 use Rattle.std.specs.Fmt.{signed_decimal}
 use Rattle.qm_json.specs.{Strings.quoted, declared.value.Json.Json}
-use Rattle.qm_json.specs.declared.value.Json.{TheOpen.Json-F, TheOpen.Member-F, TheFolds.fold-Json, TheFolds.fold-Member}
+use Rattle.qm_json.specs.declared.value.{Json.TheOpen.Json-F, Json.TheOpen.Member-F, Json.TheFolds.fold-Json, Json.TheFolds.fold-Member, Member.Member}
 use Rattle.qm_json.specs.declared.value.Json.TheOpen as layer
-use Rattle.qm_json.specs.declared.value.Member.{Member}
 
 abbrev pub after_comma : List ℕ → List ℕ
 after_comma text = codes ", " ++ text

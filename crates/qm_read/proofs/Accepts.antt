@@ -1,10 +1,9 @@
 -- What spells a value is read as that value.
 use Rattle.std.proofs.Common.{◌≡◌, ℕ, ◌+◌, nat_lt, suc, true, false, List, [], ◌∷◌, ◌++◌, length, Result, Ok, refl, ap, sym, ◌∙◌, arith, append_assoc}
 use Rattle.std.proofs.lemmas.{List.append-nil, Bool.Decides.nat_tests}
-use Rattle.qm_read.specs.declared.{fault.JsonFault.JsonFault, stack.Open.Open}
+use Rattle.qm_read.specs.declared.{fault.JsonFault.JsonFault, stack.Open.Open, stack.Open.TheVariants.Top, stack.Open.TheVariants.Arr, stack.Open.TheVariants.Obj, stack.Expect.Expect}
 use Rattle.qm_json.specs.{declared.value.Json.Json, declared.value.Member.Member, Members.has_name}
 use Rattle.qm_read.specs.declared.token.Token.TheVariants as tokens
-use Rattle.qm_read.specs.declared.stack.{Open.TheVariants.Top, Open.TheVariants.Arr, Open.TheVariants.Obj, Expect.Expect}
 use Rattle.qm_read.specs.declared.stack.Expect.TheVariants.{Value, ValueOrEnd, Name, NameOrEnd, CommaOrEnd}
 use Rattle.qm_frame.specs.declared.step.TheConstants.{MAX_DEPTH}
 use Rattle.qm_read.specs.Stacks.{State, begun, takes_value, takes_name, put}

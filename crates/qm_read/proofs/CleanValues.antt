@@ -1,17 +1,15 @@
 -- What the tokens of a text spell is clean and nested no deeper than they may be; where their first
 -- fault stands.
 use Rattle.std.proofs.Common.{◌≡◌, ℕ, ◌≤◌, Bool, true, not, List, [], ◌∷◌, ◌++◌, length, refl, ap, ◌∙◌, arith, map}
-use Rattle.qm_json.specs.Numbers.{is_literal, is_whole_literal}
+use Rattle.qm_json.specs.{Numbers.is_literal, Numbers.is_whole_literal, Cleanness.IsClean, Cleanness.is_clean, Cleanness.is_clean_member, Cleanness.are_distinct}
 use Rattle.std.specs.{List.list_all, Str.is_utf8}
 use Rattle.std.proofs.lemmas.{Bool.and_from, List.Folds.list_all-append}
-use Rattle.qm_json.specs.Cleanness.{IsClean, is_clean, is_clean_member, are_distinct}
 use Rattle.qm_json.specs.{declared.value.Json.Json, declared.value.Member.Member, Nesting.depth, Nesting.depth_member, Nesting.deepest}
 use Rattle.qm_json.proofs.CleanLaws.{is_clean-Null, is_clean-Bool, is_clean-Int, is_clean-Num, is_clean-Str, is_clean-Arr, is_clean-Obj, is_clean_member-is}
 use Rattle.qm_json.proofs.Distinct.{names, distinct-more}
 use Rattle.qm_read.specs.declared.token.Token.TheVariants as tokens
 use Rattle.qm_read.specs.{declared.fault.JsonFault.JsonFault, Texts.Spells, Texts.HasFault, Texts.IsWithin}
-use Rattle.qm_read.specs.Viable.{FirstFault, wrong, misplaced, twice, short}
-use Rattle.qm_read.specs.Tokens.{Placed, at, tokens_of}
+use Rattle.qm_read.specs.{Viable.FirstFault, Viable.wrong, Viable.misplaced, Viable.twice, Viable.short, Tokens.Placed, Tokens.at, Tokens.tokens_of}
 use Rattle.qm_read.specs.Spelling.{SpellsValue, null, bool, int, num, string, no_items, array, no_members, object, SpellsItems, item, more_items, SpellsMembers, member, more_members}
 use Rattle.qm_read.proofs.CleanTokens.{AreSound, sound-front, sound-rest, tokens-sound}
 use Rattle.qm_json.proofs.NestingLaws.{depth-Null, depth-Bool, depth-Int, depth-Num, depth-Str, depth-Arr, depth-Obj, depth_member-is, deepest-more}

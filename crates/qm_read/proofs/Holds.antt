@@ -5,8 +5,7 @@ use Rattle.qm_read.specs.declared.{fault.JsonFault.JsonFault, token.Token.Token,
 use Rattle.qm_json.specs.{declared.value.Json.Json, declared.value.Member.Member, Members.has_name}
 use Rattle.qm_json.specs.declared.value.Json.TheVariants as json
 use Rattle.qm_read.specs.declared.token.Token.TheVariants as tokens
-use Rattle.qm_read.specs.declared.stack.Open.TheVariants.{Top, Arr, Obj, Whole}
-use Rattle.qm_read.specs.declared.stack.Expect.{Expect}
+use Rattle.qm_read.specs.declared.stack.{Open.TheVariants.Top, Open.TheVariants.Arr, Open.TheVariants.Obj, Open.TheVariants.Whole, Expect.Expect}
 use Rattle.qm_read.specs.declared.stack.Expect.TheVariants.{Value, ValueOrEnd, Name, NameOrEnd, Colon, CommaOrEnd, End}
 use Rattle.qm_frame.specs.declared.step.TheConstants.{MAX_DEPTH}
 use Rattle.qm_read.specs.{Stacks.State, Stacks.begun, Stacks.put, Stacks.left, Steps.step}

@@ -1,7 +1,6 @@
 -- Literals of whole numbers, as `parse` reads them.
 use Rattle.std.proofs.Common.{◌≡◌, ℕ, ◌<◌, Bool, true, false, cond, ◌||◌, ◌==◌, nat_lt, List, [], ◌∷◌, length, refl, subst, arith}
-use Rattle.std.proofs.lemmas.{Int.ints, Bool.and_parts, Bool.false_from_ne_true, Bool.Decides.nat_tests, Fmt.IsAscii-from_digits}
-use Rattle.std.proofs.lemmas.Str.{IsUtf8-from_ascii, Ascii.IsAscii-cons}
+use Rattle.std.proofs.lemmas.{Int.ints, Bool.and_parts, Bool.false_from_ne_true, Bool.Decides.nat_tests, Fmt.IsAscii-from_digits, Str.IsUtf8-from_ascii, Str.Ascii.IsAscii-cons}
 use Rattle.std.specs.{Char.digit_value, Char.is_ascii_digit, List.list_all, Int.w128, Str.IsUtf8, Str.IsAscii}
 use Rattle.std.specs.Prelude.{ℤ, FitsSigned, drop}
 use Rattle.std.specs.Str.Parse.{AllDigits, IsNumeral, without_leading_sign, signed_digits_value}

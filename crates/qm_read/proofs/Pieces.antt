@@ -10,8 +10,7 @@ use Rattle.qm_read.specs.{declared.token.Token.Token, Faults.run, Faults.on, Fau
 use Rattle.qm_read.specs.declared.token.Token.TheVariants as tokens
 use Rattle.qm_read.specs.Stacks as stacks
 use Rattle.qm_read.specs.Strings.{takes_next, ends_string, string_length, text_of}
-use Rattle.qm_read.specs.Tokens.{Placed, at, number_token, word_token, run_lexeme, with_later, tokens_here, tokens_from}
-use Rattle.qm_read.specs.Walks.{walk}
+use Rattle.qm_read.specs.{Tokens.Placed, Tokens.at, Tokens.number_token, Tokens.word_token, Tokens.run_lexeme, Tokens.with_later, Tokens.tokens_here, Tokens.tokens_from, Walks.walk}
 use Rattle.qm_read.proofs.{NumberBytes.IsRun, PrintedStrings.points-inside, PrintedStrings.points-read, PrintedStrings.stays}
 use Rattle.qm_read.proofs.Advancing.{passed}
 

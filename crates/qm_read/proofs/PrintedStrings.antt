@@ -4,8 +4,7 @@ use Rattle.std.specs.Char.{digit_value, encode_utf8, IsScalar, Utf16.is_high_sur
 use Rattle.std.specs.{List.flat_map, Str.chars, Str.encode_utf8_all, Str.all_scalars}
 use Rattle.std.proofs.lemmas.Bool.{cond_both, cond-true, cond-false, ltb-true, ltb-false, and_parts, eqb-true, Decides.nat_tests}
 use Rattle.qm_json.specs.Strings.{hex_digit, unit_escape, unicode_escape, code_points, plain_or_unicode, escaped, escapes}
-use Rattle.qm_read.specs.declared.{fault.JsonFault.JsonFault, strings.Part.Part, strings.Part.TheVariants.Char}
-use Rattle.qm_read.specs.Escapes.{is_hex, hex_of, unicode_of, pair_of}
+use Rattle.qm_read.specs.{declared.fault.JsonFault.JsonFault, declared.strings.Part.Part, declared.strings.Part.TheVariants.Char, Escapes.is_hex, Escapes.hex_of, Escapes.unicode_of, Escapes.pair_of}
 use Rattle.qm_read.specs.Escapes as escapes_read
 use Rattle.qm_read.specs.Strings.{takes_next, ends_string, part, followed_by, after_part, text_after, is_control, text_of}
 use Rattle.std.proofs.lemmas.Str.{encode_ascii, encodes-chars, scalars-chars}

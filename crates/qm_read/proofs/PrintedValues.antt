@@ -2,16 +2,14 @@
 use Rattle.std.proofs.Common.{◌≡◌, ℕ, ◌+◌, ◌≤◌, zero, suc, true, false, List, [], ◌∷◌, ◌++◌, map, codes, Result, Ok, refl, ap, sym, ◌∙◌, subst, arith, append_assoc, append-nil, Bool, not, cond, length, Some, None}
 use Rattle.std.specs.{List.list_all, List.flat_map, List.AllByRecursion, Str.is_utf8, Fmt.signed_decimal, Str.Parse.signed_digits_value}
 use Rattle.std.proofs.lemmas.{Bool.and_parts, Bool.cond-true, Bool.cond-false, Bool.not-true, Str.IsUtf8-from_is_utf8}
-use Rattle.qm_json.specs.declared.value.{Json.Json, Member.Member}
+use Rattle.qm_json.specs.{declared.value.Json.Json, declared.value.Member.Member, Printing.printed, Printing.printed_member, Printing.after_comma, Printing.array_text, Printing.object_text}
 use Rattle.qm_json.specs.declared.value.Json.TheVariants as json
 use Rattle.qm_json.specs.{Cleanness.is_clean, Cleanness.is_clean_member, Cleanness.are_distinct, Cleanness.IsClean, Members.has_name}
-use Rattle.qm_json.specs.Printing.{printed, printed_member, after_comma, array_text, object_text}
 use Rattle.qm_json.specs.{Strings.quoted, Nesting.depth, Nesting.depth_member, Nesting.deepest}
 use Rattle.qm_json.proofs.CleanLaws.{is_clean_member-is, is_clean-Int, is_clean-Num, is_clean-Str, is_clean-Arr, is_clean-Obj}
 use Rattle.qm_json.proofs.PrintLaws.{printed_member-is, printed-Null, printed-Bool, printed-Int, printed-Num, printed-Str, printed-Arr, printed-Obj}
-use Rattle.qm_read.specs.declared.{fault.JsonFault.JsonFault, stack.Open.Open}
+use Rattle.qm_read.specs.declared.{fault.JsonFault.JsonFault, stack.Open.Open, stack.Open.TheVariants.Arr, stack.Open.TheVariants.Obj, stack.Open.TheVariants.Top, stack.Expect.Expect}
 use Rattle.qm_read.specs.declared.token.Token.TheVariants as tokens
-use Rattle.qm_read.specs.declared.stack.{Open.TheVariants.Arr, Open.TheVariants.Obj, Open.TheVariants.Top, Expect.Expect}
 use Rattle.qm_read.specs.declared.stack.Expect.TheVariants.{Value, ValueOrEnd, Name, NameOrEnd, Colon, CommaOrEnd}
 use Rattle.qm_read.specs.{Stacks.State, Stacks.takes_value, Stacks.takes_name, Stacks.put, Stacks.begun, Steps.step, Steps.value_step}
 use Rattle.qm_read.specs.{Faults.ended, Faults.reading_of, Tokens.tokens_from, Tokens.number_token, Tokens.literal_token, Tokens.tokens_of}

@@ -8,12 +8,10 @@ use Rattle.qm_frame.specs.declared.step.TheConstants.{MAX_DEPTH}
 use Rattle.qm_json.specs.declared.value.Json.TheVariants as json
 use Rattle.qm_read.specs.declared.fault.JsonFault.{JsonFault, TheVariants.Expected, TheVariants.Duplicate}
 use Rattle.qm_read.specs.declared.stack.{Expect.Expect, Expect.TheVariants.Colon, Expect.TheVariants.CommaOrEnd, Open.Open}
-use Rattle.qm_read.specs.declared.stack.Open.TheVariants.{Top, Arr, Obj, Whole}
-use Rattle.qm_read.specs.declared.token.Token.{Token}
+use Rattle.qm_read.specs.declared.{stack.Open.TheVariants.Top, stack.Open.TheVariants.Arr, stack.Open.TheVariants.Obj, stack.Open.TheVariants.Whole, token.Token.Token}
 use Rattle.qm_read.specs.declared.token.Token.TheVariants as tokens
 use Rattle.qm_read.specs.Stacks.{State, takes_value, takes_name, put, ends_array, ends_object}
-use Rattle.qm_read.specs.Steps.{step, value_step, name_step, close_array, close_object, comma_step, colon_step}
-use Rattle.qm_read.specs.Faults.{whole}
+use Rattle.qm_read.specs.{Steps.step, Steps.value_step, Steps.name_step, Steps.close_array, Steps.close_object, Steps.comma_step, Steps.colon_step, Faults.whole}
 
 pub fresh : List Member → List ℕ
 fresh [] = 97 ∷ []

@@ -1,10 +1,8 @@
 -- What the bytes of a string stand for, part by part; bytes that stand for themselves.
 use Rattle.std.proofs.Common.{◌≡◌, ℕ, ◌+◌, ◌<◌, ◌≤◌, Bool, true, false, cond, ◌==◌, suc, List, [], ◌∷◌, ◌++◌, drop, length, Some, None, Result, Ok, Err, refl, ap, sym, ◌∙◌, arith, append_assoc, slice_index, take, get_or, min, drop-cons}
-use Rattle.std.proofs.lemmas.{Bool.Decides.nat_tests, Str.is_utf8-from_IsUtf8, Str.IsUtf8-from_ascii}
-use Rattle.std.proofs.lemmas.Str.Ascii.{IsAscii-cons, IsAscii-nil}
+use Rattle.std.proofs.lemmas.{Bool.Decides.nat_tests, Str.is_utf8-from_IsUtf8, Str.IsUtf8-from_ascii, Str.Ascii.IsAscii-cons, Str.Ascii.IsAscii-nil}
 use Rattle.std.specs.{Str.continuation_len, Str.is_utf8, List.prefix_len}
-use Rattle.qm_read.specs.declared.{fault.JsonFault.JsonFault, strings.Part.Part, strings.Part.TheVariants.Same}
-use Rattle.qm_read.specs.Progress.{Advances, decoded_from}
+use Rattle.qm_read.specs.{declared.fault.JsonFault.JsonFault, declared.strings.Part.Part, declared.strings.Part.TheVariants.Same, Progress.Advances, Progress.decoded_from}
 use Rattle.qm_read.specs.Strings.{character, part, text_in, more_in, followed_by, after_part, text_here, text_after, text_of, takes_next, ends_string, string_length}
 use Rattle.qm_read.proofs.Advancing.{passed}
 use Rattle.qm_read.specs.{declared.token.Lexeme.Lexeme, Escapes.escape, Spans.is_plain, Tokens.string_token, Tokens.string_lexeme}

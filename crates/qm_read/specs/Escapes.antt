@@ -1,8 +1,7 @@
 -- Escapes in strings (RFC 8259, section 7; the escape `\'` is this project's own rule).
 use Rattle.std.specs.Prelude.{ℕ, ◌+◌, ◌*◌, ◌==◌, nat_lt, Bool, cond, ◌&&◌, ◌||◌, List, [], ◌∷◌, drop, Option, Some, None, Result, Ok, Err}
 use Rattle.std.specs.Char.{digit_value, Utf16.is_high_surrogate, Utf16.is_low_surrogate, Utf16.surrogate_pair_char}
-use Rattle.qm_read.specs.declared.{fault.JsonFault.JsonFault, fault.JsonFault.TheVariants.BadEscape, strings.Part.Part}
-use Rattle.qm_read.specs.declared.strings.Part.TheVariants.{Char}
+use Rattle.qm_read.specs.declared.{fault.JsonFault.JsonFault, fault.JsonFault.TheVariants.BadEscape, strings.Part.Part, strings.Part.TheVariants.Char}
 
 abbrev pub is_hex : ℕ → Bool
 is_hex x = nat_lt (digit_value x) 16

@@ -2,8 +2,7 @@
 use Rattle.std.specs.Prelude.{ℕ, ◌==◌, nat_lt, nat_le, Bool, not, ◌&&◌}
 use Rattle.std.specs.Char.{is_ascii_digit}
 use Rattle.qm_frame.specs.Bytes.{is_space, in_number, is_letter}
-use Rattle.qm_read.specs.declared.spans.Span.{Span}
-use Rattle.qm_read.specs.declared.spans.Span.TheVariants.{Space, Digit, Number, Word, Plain}
+use Rattle.qm_read.specs.declared.spans.Span.{Span, TheVariants.Space, TheVariants.Digit, TheVariants.Number, TheVariants.Word, TheVariants.Plain}
 
 -- a byte of a string that stands for itself, and neither ends it nor begins an escape
 abbrev pub is_plain : ℕ → ℕ → Bool

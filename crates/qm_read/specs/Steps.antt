@@ -4,8 +4,7 @@ use Rattle.std.specs.Prelude.{ℕ, ◌+◌, nat_lt, cond, ◌&&◌, List, [], �
 use Rattle.qm_json.specs.{declared.value.Json.Json, Members.has_name}
 use Rattle.qm_json.specs.declared.value.Json.TheVariants as json
 use Rattle.qm_frame.specs.declared.step.TheConstants.{MAX_DEPTH}
-use Rattle.qm_read.specs.declared.fault.JsonFault.{JsonFault, TheVariants.Expected, TheVariants.Duplicate}
-use Rattle.qm_read.specs.declared.stack.Expect.{Expect}
+use Rattle.qm_read.specs.declared.{fault.JsonFault.JsonFault, fault.JsonFault.TheVariants.Expected, fault.JsonFault.TheVariants.Duplicate, stack.Expect.Expect}
 use Rattle.qm_read.specs.declared.stack.Expect.TheVariants.{Value, ValueOrEnd, NameOrEnd, Colon, CommaOrEnd}
 use Rattle.qm_read.specs.declared.{stack.Open.Open, stack.Open.TheVariants.Arr, stack.Open.TheVariants.Obj, token.Token.Token}
 use Rattle.qm_read.specs.declared.token.Token.TheVariants as tokens

@@ -3,8 +3,7 @@
 use Rattle.std.specs.Prelude.{ℕ, ◌<◌, ◌≤◌, List, length}
 use Rattle.qm_frame.specs.declared.step.TheConstants.{MAX_DEPTH}
 use Rattle.qm_json.specs.declared.value.Json.{Json}
-use Rattle.qm_read.specs.declared.fault.JsonFault.{JsonFault}
-use Rattle.qm_read.specs.declared.fault.JsonFault.TheVariants.{Expected, Duplicate, BadEscape, BadUtf8, Memory}
+use Rattle.qm_read.specs.declared.fault.JsonFault.{JsonFault, TheVariants.Expected, TheVariants.Duplicate, TheVariants.BadEscape, TheVariants.BadUtf8, TheVariants.Memory}
 use Rattle.qm_read.specs.{Spelling.SpellsValue, Tokens.tokens_of, Viable.FirstFault}
 
 -- the tokens of the text spell the value, nested at most so deep

@@ -1,8 +1,7 @@
 -- The lines of a script, one after the other.
 use Rattle.std.proofs.Common.{◌≡◌, ℕ, ◌+◌, ◌<◌, ◌==◌, Bool, true, false, cond, nat_lt, List, [], ◌∷◌, length, take, drop, Option, Some, None, position, refl, ap, ◌∙◌, arith, subst, ◌≤◌}
 use Rattle.std.specs.List.{slice_split, position_or_len, onto_first}
-use Rattle.std.proofs.lemmas.{Bool.Decides.nat_tests, List.Elements.All-from_get_or, List.Sums.fails_before_first}
-use Rattle.std.proofs.lemmas.List.Splits.{slice_split_first, slice_split_none}
+use Rattle.std.proofs.lemmas.{Bool.Decides.nat_tests, List.Elements.All-from_get_or, List.Sums.fails_before_first, List.Splits.slice_split_first, List.Splits.slice_split_none}
 use Rattle.qm_script.specs.Lines.{is_line_feed, whole_lines, lines_of}
 
 -- there is a first part

@@ -4,8 +4,7 @@ use Rattle.qm_core.specs.declared.inputs.{FrameWord.FrameWord, Input.Input, Inpu
 use Rattle.qm_core.specs.declared.inputs.FrameWord.TheVariants as word
 use Rattle.qm_core.specs.declared.inputs.BadInput.TheVariants as bad
 use Rattle.qm_core.specs.declared.inputs.JsonWord.TheVariants as place
-use Rattle.qm_frame.specs.declared.step.FrameFault.{FrameFault}
-use Rattle.qm_frame.specs.declared.step.FrameFault.TheVariants.{LexError, Unbalanced, TooDeep, TooLong}
+use Rattle.qm_frame.specs.declared.step.FrameFault.{FrameFault, TheVariants.LexError, TheVariants.Unbalanced, TheVariants.TooDeep, TheVariants.TooLong}
 use Rattle.qm_read.specs.{Inputs.inputs_of, declared.fault.JsonFault.JsonFault}
 use Rattle.qm_read.specs.declared.fault.JsonFault.TheVariants.{Expected, Duplicate, BadEscape, BadUtf8, Memory}
 use Rattle.qm_read.specs.declared.taken.Taken.{Taken, TheVariants.Value, TheVariants.BadFrame, TheVariants.BadText}

@@ -4,8 +4,7 @@ use Rattle.std.proofs.Math.ListN.{set}
 use Rattle.qm_core.specs.{Legal.past_of, Next.refusal_of, Next.entry_of, Next.session_refusal}
 use Rattle.qm_core.specs.Next as step
 use Rattle.qm_core.specs.{Standing.sessions_of, Standing.admitted_of, Standing.running_of, Standing.named_of, Texts.text_of}
-use Rattle.qm_core.specs.declared.{entries.Entry.Entry, entries.StepFault.StepFault, inputs.Input.Input, monitor.Limits.Limits}
-use Rattle.qm_core.specs.declared.requests.RequestName.{RequestName}
+use Rattle.qm_core.specs.declared.{entries.Entry.Entry, entries.StepFault.StepFault, inputs.Input.Input, monitor.Limits.Limits, requests.RequestName.RequestName}
 use Rattle.qm_script.specs.{Endings.stop_of, Endings.closing_of, Fed.fed_inputs_of, Lines.lines_of}
 use Rattle.qm_script.specs.{Orders.order_of, Orders.fed_by, Orders.hex_bytes_of, Orders.is_skipped, declared.endings.Refused.Refused}
 use Rattle.qm_script.specs.declared.endings.StepWord.TheVariants as word

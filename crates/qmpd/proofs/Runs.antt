@@ -10,8 +10,7 @@ use Rattle.qm_core.proofs.Transcripts.{taken_first}
 use Rattle.qm_script.specs.{Endings.end_of, Endings.stop_end_of, declared.endings.Refused.Refused, declared.endings.Stop.Stop}
 use Rattle.qm_script.specs.declared.endings.Stop.TheVariants.{BadLine, Step, SessionsFull, JournalFull}
 use Rattle.qm_script.proofs.LegalPlays.{script_legal}
-use Rattle.qmpd.specs.Answers.{Ran, Ends, Gives, Answers, IsNamed, PutsUnread}
-use Rattle.qmpd.specs.Causes.{is_full, Misses, Stops}
+use Rattle.qmpd.specs.{Answers.Ran, Answers.Ends, Answers.Gives, Answers.Answers, Answers.IsNamed, Answers.PutsUnread, Causes.is_full, Causes.Misses, Causes.Stops}
 use Rattle.qmpd.specs.Output.{Output, output_of, asked_output, replay_output, end_status_of, limits_of, play_of, play_from, journal_for, cannot_read, missing as no_file}
 use Rattle.qmpd.specs.Words.{Replay, replay_of}
 

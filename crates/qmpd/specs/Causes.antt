@@ -1,8 +1,7 @@
 -- Why a script is refused or finds no room (this project's own rule).
 use Rattle.std.specs.Prelude.{◌≡◌, ℕ, Bool, true, false, List, Some, None}
 use Rattle.qapi_load.specs.Files.{NamedText, text_of}
-use Rattle.qm_script.specs.declared.endings.{Refused.Refused, Stop.Stop}
-use Rattle.qm_script.specs.declared.endings.Stop.TheVariants.{BadLine, Step, SessionsFull, JournalFull}
+use Rattle.qm_script.specs.declared.endings.{Refused.Refused, Stop.Stop, Stop.TheVariants.BadLine, Stop.TheVariants.Step, Stop.TheVariants.SessionsFull, Stop.TheVariants.JournalFull}
 use Rattle.qmpd.specs.{Output.play_of, Words.Replay, Words.replay_of}
 
 -- the journal or the sessions were full; else the line was bad, or its step was refused

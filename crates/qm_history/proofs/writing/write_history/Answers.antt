@@ -1,7 +1,6 @@
 use Rattle.std.proofs.Common.{◌∙◌, ◌+◌, arith}
 use Rattle.qm_base.proofs.Telling.{puts-part}
-use Rattle.qm_history.proofs.Gathering.{gathers-entry, gathers-part, gathers-put_part, gathers-twice}
-use Rattle.qm_history.proofs.Numbering.{text-so_far}
+use Rattle.qm_history.proofs.{Gathering.gathers-entry, Gathering.gathers-part, Gathering.gathers-put_part, Gathering.gathers-twice, Numbering.text-so_far}
 use Rattle.qm_history.proofs.writing.write_history.Goals as goal
 
 pub returns-in_err-put_entry-clause-text : goal.returns-in_err-put_entry-clause-text
