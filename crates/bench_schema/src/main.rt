@@ -6,9 +6,9 @@ mod reading;
 mod tables;
 
 use reading::read;
+use std::env;
 use std::io::{self, Read};
 use std::process::ExitCode;
-use std::env;
 use tables::sealed;
 
 const USAGE: &str = "bench_schema [lex|parse|load|plain N|chain N|bases N]";

@@ -65,6 +65,7 @@ wrong-shape 1 if | { 'event': 'A', 'if': { 'all': [], 'any': [] } }
 wrong-shape 1 if | { 'event': 'A', 'if': { 'any': [ 'B', { 'not': { 'all': [ true ] } } ] } }
 ";
 
+/// How a table writes the rule.
 pub fn word_of(rule: TreeRule) -> &'static str {
     match rule {
         TreeRule::Syntax => "syntax",
