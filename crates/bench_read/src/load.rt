@@ -18,18 +18,13 @@ pub enum Shape {
 impl Shape {
     /// The shape of this name.
     pub fn named(name: &str) -> Option<Shape> {
-        let shapes = [
-            ("large", Shape::Large),
-            ("small", Shape::Small),
-            ("one", Shape::One),
-            ("given", Shape::Given),
-        ];
-        for (known, shape) in shapes {
-            if known == name {
-                return Some(shape);
-            }
+        match name {
+            "large" => Some(Shape::Large),
+            "small" => Some(Shape::Small),
+            "one" => Some(Shape::One),
+            "given" => Some(Shape::Given),
+            _ => None,
         }
-        None
     }
 }
 

@@ -19,17 +19,12 @@ pub enum Way {
 impl Way {
     /// The way of this name.
     pub fn of(name: &str) -> Option<Way> {
-        let ways = [
-            ("frame", Way::Frame),
-            ("read", Way::Read),
-            ("print", Way::Print),
-        ];
-        for (known, way) in ways {
-            if known == name {
-                return Some(way);
-            }
+        match name {
+            "frame" => Some(Way::Frame),
+            "read" => Some(Way::Read),
+            "print" => Some(Way::Print),
+            _ => None,
         }
-        None
     }
 }
 

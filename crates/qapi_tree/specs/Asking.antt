@@ -1,9 +1,7 @@
--- Shapes of values by those of the values inside. This serves private functions: shapes are stated
--- without it.
+-- Shapes of values by those of the values inside. This serves private functions.
 use Rattle.std.specs.Prelude.{◌≡◌, ℕ, ◌+◌, Bool, ◌&&◌, List, [], ◌∷◌}
 use Rattle.std.specs.List.{list_all}
-use Rattle.qapi_tree.specs.declared.{shapes.Wanted.Wanted, table.Form.Form, table.Shape.Shape, table.ListRule.ListRule}
-use Rattle.qapi_tree.specs.declared.{table.DictRule.DictRule, tree.Tree.Tree, tree.Tree.TheOpen.Tree-F, tree.Tree.TheOpen.TreeMember-F, tree.Tree.TheFolds.fold-Tree, tree.TreeMember.TreeMember}
+use Rattle.qapi_tree.specs.declared.{shapes.Wanted.Wanted, table.Form.Form, table.Shape.Shape, table.ListRule.ListRule, table.DictRule.DictRule, tree.Tree.Tree, tree.Tree.TheOpen.Tree-F, tree.Tree.TheOpen.TreeMember-F, tree.Tree.TheFolds.fold-Tree, tree.TreeMember.TreeMember}
 use Rattle.qapi_tree.specs.declared.tree.Tree.TheOpen as layer
 use Rattle.qapi_tree.specs.Shapes.{rule_for, fits_rule, has_needed, takes_list, takes_dict, has_shape}
 

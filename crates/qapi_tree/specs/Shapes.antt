@@ -3,11 +3,10 @@ use Rattle.std.specs.Prelude.{ℕ, ◌==◌, Bool, true, false, not, ◌&&◌, �
 use Rattle.std.specs.{List.list_all, List.list_any, Str.bytes_eq}
 use Rattle.qapi_tree.specs.declared.table.{Key.Key, Form.Form, Shape.Shape, KeyRule.KeyRule, KeyRule.TheVariants.Needed, KeyRule.TheVariants.Optional, ScalarRule.ScalarRule}
 use Rattle.qapi_tree.specs.declared.table.ScalarRule.TheVariants as scalar
-use Rattle.qapi_tree.specs.declared.{table.ListRule.ListRule, table.DictRule.DictRule, tree.Tree.Tree, tree.Tree.TheOpen.Tree-F, tree.Tree.TheOpen.TreeMember-F, tree.Tree.TheFolds.fold-Tree}
+use Rattle.qapi_tree.specs.{declared.table.ListRule.ListRule, declared.table.DictRule.DictRule, declared.tree.Tree.Tree, declared.tree.Tree.TheOpen.Tree-F, declared.tree.Tree.TheOpen.TreeMember-F, declared.tree.Tree.TheFolds.fold-Tree, Table.name, Table.keys, Table.rule_of}
 use Rattle.qapi_tree.specs.declared.table.ListRule.TheVariants as list
 use Rattle.qapi_tree.specs.declared.table.DictRule.TheVariants as dict
 use Rattle.qapi_tree.specs.declared.tree.Tree.TheOpen as layer
-use Rattle.qapi_tree.specs.Table.{name, keys, rule_of}
 
 abbrev pub key_in : KeyRule → Key
 key_in (Needed key shape) = key

@@ -3,8 +3,7 @@
 -- rule).
 use Rattle.std.specs.Prelude.{ℕ, ◌==◌, cond, List, [], ◌∷◌, Result, Ok, Err}
 use Rattle.qapi_lex.specs.declared.token.{Token.Token, TokenKind.TokenKind, TokenKind.TheVariants.Mark, TokenKind.TheVariants.Flag, TokenKind.TheVariants.Str}
-use Rattle.qapi_tree.specs.declared.{fault.TreeFault.TreeFault, fault.TreeRule.TheVariants.DuplicateKey, stack.Expect.Expect}
-use Rattle.qapi_tree.specs.declared.stack.Expect.TheVariants.{Value, ValueOrEnd, KeyOrEnd, Colon, CommaOrEnd}
+use Rattle.qapi_tree.specs.declared.{fault.TreeFault.TreeFault, fault.TreeRule.TheVariants.DuplicateKey, stack.Expect.Expect, stack.Expect.TheVariants.Value, stack.Expect.TheVariants.ValueOrEnd, stack.Expect.TheVariants.KeyOrEnd, stack.Expect.TheVariants.Colon, stack.Expect.TheVariants.CommaOrEnd}
 use Rattle.qapi_tree.specs.{declared.stack.Open.Open, declared.tree.Tree.Tree, Faults.fault, Faults.syntax_fault, Spelling.has_key}
 use Rattle.qapi_tree.specs.declared.stack.Open.TheVariants as opens
 use Rattle.qapi_tree.specs.declared.tree.Tree.TheVariants as trees

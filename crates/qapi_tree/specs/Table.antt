@@ -1,11 +1,10 @@
 -- The kinds of expressions, the keys of each form of object, and the shapes of values (QAPI code
 -- generation guide, "Schema syntax"; the lenient points of shapes are this project's own rule).
 use Rattle.std.specs.Prelude.{ℕ, List, [], ◌∷◌, codes}
-use Rattle.qapi_tree.specs.declared.table.{Key.Key, Form.Form, Shape.Shape, KeyRule.KeyRule, KeyRule.TheVariants.Needed, KeyRule.TheVariants.Optional, KindRule.KindRule}
+use Rattle.qapi_tree.specs.declared.table.{Key.Key, Form.Form, Shape.Shape, KeyRule.KeyRule, KeyRule.TheVariants.Needed, KeyRule.TheVariants.Optional, KindRule.KindRule, ScalarRule.ScalarRule, ListRule.ListRule, DictRule.DictRule, ShapeRule.ShapeRule}
 use Rattle.qapi_tree.specs.declared.table.Key.TheVariants as key
 use Rattle.qapi_tree.specs.declared.table.Form.TheVariants as form
 use Rattle.qapi_tree.specs.declared.table.Shape.TheVariants as shape
-use Rattle.qapi_tree.specs.declared.table.{ScalarRule.ScalarRule, ListRule.ListRule, DictRule.DictRule, ShapeRule.ShapeRule}
 use Rattle.qapi_tree.specs.declared.table.ScalarRule.TheVariants as scalar
 use Rattle.qapi_tree.specs.declared.table.ListRule.TheVariants as list
 use Rattle.qapi_tree.specs.declared.table.DictRule.TheVariants as dict

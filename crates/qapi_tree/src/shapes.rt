@@ -133,13 +133,11 @@ fn ask_member<'a>(
         (member_fits form member.now) (are_shaped pending.old.items)) }
     ensures left { IfOk result (λ _. left_in pending.new.items ≤ left_in pending.old.items + count_of member.now.tree) }
 {
-    match rule_for(form, member.key.as_slice()) {
-        Some(rule) => {
-            ask(pending, &member.tree, rule.shape())?;
-            Ok(true)
-        }
-        None => Ok(false),
-    }
+    let Some(rule) = rule_for(form, member.key.as_slice()) else {
+        return Ok(false);
+    };
+    ask(pending, &member.tree, rule.shape())?;
+    Ok(true)
 }
 
 /// Asks for the shapes that a form wants of its keys; false if it has no key of some member.
@@ -184,21 +182,13 @@ fn ask_list<'a>(
         (list_fits rule items.now) (are_shaped pending.old.items)) }
     ensures left { IfOk result (λ _. left_in pending.new.items ≤ left_in pending.old.items + items_count items.now) }
 {
-    match rule {
-        ListRule::Never => Ok(false),
-        ListRule::One(shape) => {
-            if items.len() == 1 {
-                ask_items(pending, items, shape)?;
-                Ok(true)
-            } else {
-                Ok(false)
-            }
-        }
-        ListRule::Each(shape) => {
-            ask_items(pending, items, shape)?;
-            Ok(true)
-        }
-    }
+    let shape = match rule {
+        ListRule::One(shape) if items.len() == 1 => shape,
+        ListRule::Each(shape) => shape,
+        ListRule::Never | ListRule::One(_) => return Ok(false),
+    };
+    ask_items(pending, items, shape)?;
+    Ok(true)
 }
 
 fn ask_dict<'a>(
@@ -218,19 +208,9 @@ fn ask_dict<'a>(
             Ok(true)
         }
         DictRule::Of(form) => {
-            if has_needed_keys(form, members) {
-                ask_members(pending, form, members)
-            } else {
-                Ok(false)
-            }
+            Ok(has_needed_keys(form, members) && ask_members(pending, form, members)?)
         }
-        DictRule::OneOf(form) => {
-            if members.len() == 1 {
-                ask_members(pending, form, members)
-            } else {
-                Ok(false)
-            }
-        }
+        DictRule::OneOf(form) => Ok(members.len() == 1 && ask_members(pending, form, members)?),
     }
 }
 

@@ -6,8 +6,7 @@ use Rattle.qm_caps.specs.declared.mode.Mode.TheVariants.{Command, Negotiating}
 use Rattle.qm_core.specs.{Legal.past_of, Legal.IsLegal, Legal.HasRoom, Legal.IsWithin, Legal.is_within, Next.View, Next.Step, Next.full_refusal, Next.refusal_of}
 use Rattle.qm_core.specs.Standing.{sessions_of, is_open, is_dropped, is_ended, open_count_of, admitted_of, mode_of, waiting_of, running_of, last_moment_of}
 use Rattle.qm_core.specs.{Texts.entry_text_of, Texts.text_of, Transcript.has_overrun, Transcript.untaken_of, Transcript.wire_of}
-use Rattle.qm_core.specs.declared.{TheConstants.MOST_ENTRIES, TheConstants.MOST_TEXT, TheConstants.MOST_UNTAKEN, entries.Entry.Entry}
-use Rattle.qm_core.specs.declared.{entries.StepFault.StepFault, monitor.Monitor.TheInside.Inside as Fields, requests.Request.Request, sessions.Session.Session}
+use Rattle.qm_core.specs.declared.{TheConstants.MOST_ENTRIES, TheConstants.MOST_TEXT, TheConstants.MOST_UNTAKEN, entries.Entry.Entry, entries.StepFault.StepFault, monitor.Monitor.TheInside.Inside as Fields, requests.Request.Request, sessions.Session.Session}
 
 abbrev pub view_of : Fields → View
 view_of m = record { limits = m.limits; journal = m.journal.items }

@@ -1,9 +1,8 @@
 -- Error replies: their classes (QMP specification, "Error") and descriptions (this project's own rule).
 use Rattle.std.specs.Prelude.{ℕ, List, ◌++◌, codes}
 use Rattle.std.specs.Fmt.{decimal}
-use Rattle.qm_core.specs.declared.inputs.{BadInput.BadInput, FrameWord.FrameWord}
+use Rattle.qm_core.specs.declared.inputs.{BadInput.BadInput, FrameWord.FrameWord, FrameWord.TheVariants.LexError, FrameWord.TheVariants.Unbalanced, FrameWord.TheVariants.TooDeep, FrameWord.TheVariants.TooLong, JsonWord.JsonWord}
 use Rattle.qm_core.specs.declared.inputs.BadInput.TheVariants as bad
-use Rattle.qm_core.specs.declared.inputs.{FrameWord.TheVariants.LexError, FrameWord.TheVariants.Unbalanced, FrameWord.TheVariants.TooDeep, FrameWord.TheVariants.TooLong, JsonWord.JsonWord}
 use Rattle.qm_core.specs.declared.inputs.JsonWord.TheVariants.{Expected, Duplicate, BadEscape, BadUtf8}
 use Rattle.qm_core.specs.declared.verdicts.{Class.Class, Class.TheVariants.GenericError, Class.TheVariants.CommandNotFound, Refusal.Refusal}
 use Rattle.qm_core.specs.declared.verdicts.Refusal.TheVariants.{BadInput as Malformed, NotAnObject, UnexpectedMember, TwoVerbs, NoVerb, VerbNoString, ArgumentsNoObject, NegotiationExpected, NegotiationComplete, UnknownCommand, UnexpectedArgument}

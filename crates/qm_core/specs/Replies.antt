@@ -4,9 +4,8 @@ use Rattle.qm_json.specs.{declared.value.Json.Json, declared.value.Member.Member
 use Rattle.qm_json.specs.declared.value.Json.TheVariants as json
 use Rattle.qm_caps.specs.Greetings.{named, version_value}
 use Rattle.qm_core.specs.{Refusals.class_of, Refusals.class_name_of, Refusals.desc_of, Verdicts.verdict_of, declared.inputs.Input.Input}
-use Rattle.qm_core.specs.declared.{inputs.Input.TheVariants.Doc, inputs.Input.TheVariants.Bad, requests.Request.Request, verdicts.Command.Command, verdicts.Refusal.Refusal, verdicts.Verdict.Verdict}
+use Rattle.qm_core.specs.declared.{inputs.Input.TheVariants.Doc, inputs.Input.TheVariants.Bad, requests.Request.Request, verdicts.Command.Command, verdicts.Refusal.Refusal, verdicts.Verdict.Verdict, verdicts.Verdict.TheVariants.Refused, verdicts.Verdict.TheVariants.Run}
 use Rattle.qm_core.specs.declared.verdicts.Command.TheVariants as command
-use Rattle.qm_core.specs.declared.verdicts.Verdict.TheVariants.{Refused, Run}
 
 abbrev pub id_members : Option Json → List Member
 id_members None = []

@@ -4,8 +4,7 @@ use Rattle.std.specs.Prelude.{ℕ, ◌+◌, ◌==◌, nat_le, max, Bool, false, 
 use Rattle.std.specs.{List.list_any, List.list_all, Option.option_and_then, Str.bytes_eq}
 use Rattle.qm_caps.specs.declared.mode.Mode.{Mode, TheVariants.Negotiating, TheVariants.Command}
 use Rattle.qm_core.specs.{Inputs.command_of, Replies.is_return, declared.entries.Entry.Entry}
-use Rattle.qm_core.specs.declared.entries.Entry.TheVariants.{Open, Admit, Start, Done, Eof, Drop}
-use Rattle.qm_core.specs.declared.requests.{Request.Request, RequestName.RequestName}
+use Rattle.qm_core.specs.declared.{entries.Entry.TheVariants.Open, entries.Entry.TheVariants.Admit, entries.Entry.TheVariants.Start, entries.Entry.TheVariants.Done, entries.Entry.TheVariants.Eof, entries.Entry.TheVariants.Drop, requests.Request.Request, requests.RequestName.RequestName}
 
 -- the sessions that were opened, in order
 abbrev pub sessions_of : List Entry → List ℕ

@@ -3,12 +3,10 @@ use Rattle.std.specs.Prelude.{ℕ, ◌+◌, List, [], ◌∷◌, ◌++◌, codes
 use Rattle.std.specs.{Fmt.decimal, List.flat_map, Str.bytes_eq}
 use Rattle.qm_json.specs.Printing.{printed}
 use Rattle.qm_caps.specs.declared.mode.Lane.{Lane, TheVariants.InBand, TheVariants.Oob}
-use Rattle.qm_core.specs.declared.entries.{Cause.Cause, Entry.Entry}
+use Rattle.qm_core.specs.declared.entries.{Cause.Cause, Entry.Entry, Entry.TheVariants.Open, Entry.TheVariants.Admit, Entry.TheVariants.Start, Entry.TheVariants.Done, Entry.TheVariants.Take, Entry.TheVariants.Eof, Entry.TheVariants.Drop}
 use Rattle.qm_core.specs.declared.entries.Cause.TheVariants as cause
-use Rattle.qm_core.specs.declared.entries.Entry.TheVariants.{Open, Admit, Start, Done, Take, Eof, Drop}
-use Rattle.qm_core.specs.declared.inputs.{BadInput.BadInput, FrameWord.FrameWord}
+use Rattle.qm_core.specs.declared.inputs.{BadInput.BadInput, FrameWord.FrameWord, FrameWord.TheVariants.LexError, FrameWord.TheVariants.Unbalanced, FrameWord.TheVariants.TooDeep, FrameWord.TheVariants.TooLong}
 use Rattle.qm_core.specs.declared.inputs.BadInput.TheVariants as bad
-use Rattle.qm_core.specs.declared.inputs.FrameWord.TheVariants.{LexError, Unbalanced, TooDeep, TooLong}
 use Rattle.qm_core.specs.declared.inputs.{Input.Input, JsonWord.JsonWord, JsonWord.TheVariants.Expected, JsonWord.TheVariants.Duplicate, JsonWord.TheVariants.BadEscape, JsonWord.TheVariants.BadUtf8}
 use Rattle.qm_core.specs.declared.inputs.Input.TheVariants as input
 

@@ -3,8 +3,7 @@
 -- QMP specification, "Forcing the JSON parser into known-good state".
 use Rattle.std.specs.Prelude.{ℕ, ◌+◌, cond, List, [], ◌∷◌, ◌++◌, length, position, Option, Some, None, Result, Ok, Err}
 use Rattle.qm_base.specs.Search.{Front, Piece, Final, Found, found_after}
-use Rattle.qm_frame.specs.declared.step.FrameFault.{FrameFault, TheVariants.LexError, TheVariants.Unbalanced}
-use Rattle.qm_frame.specs.declared.step.Step.{Step, TheVariants.More, TheVariants.Frame, TheVariants.Bad}
+use Rattle.qm_frame.specs.declared.step.{FrameFault.FrameFault, FrameFault.TheVariants.LexError, FrameFault.TheVariants.Unbalanced, Step.Step, Step.TheVariants.More, Step.TheVariants.Frame, Step.TheVariants.Bad}
 use Rattle.qm_frame.specs.{Bytes.is_space, Bytes.is_opener, Bytes.is_closer, Bytes.is_reset, Messages.is_open, Messages.is_message, Messages.fault_of}
 
 -- what the end of the bytes leaves unfinished: nothing, a message, or a recovery without a reset byte

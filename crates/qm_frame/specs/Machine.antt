@@ -2,8 +2,7 @@
 -- private functions).
 use Rattle.std.specs.Prelude.{◌≡◌, ◌≤◌, ℕ, ◌+◌, ◌-◌, ◌==◌, nat_lt, Bool, true, false, not, cond, ◌&&◌, List, [], ◌∷◌, ◌++◌, Result}
 use Rattle.qm_base.specs.Search.{Found, after_front}
-use Rattle.qm_frame.specs.declared.step.FrameFault.{FrameFault, TheVariants.LexError, TheVariants.TooDeep, TheVariants.TooLong}
-use Rattle.qm_frame.specs.declared.step.{TheConstants.MAX_LENGTH, TheConstants.MAX_DEPTH, Step.Step, Step.TheVariants.More, Step.TheVariants.Frame, Step.TheVariants.Bad}
+use Rattle.qm_frame.specs.declared.step.{FrameFault.FrameFault, FrameFault.TheVariants.LexError, FrameFault.TheVariants.TooDeep, FrameFault.TheVariants.TooLong, TheConstants.MAX_LENGTH, TheConstants.MAX_DEPTH, Step.Step, Step.TheVariants.More, Step.TheVariants.Frame, Step.TheVariants.Bad}
 use Rattle.qm_frame.specs.declared.piece.LastPiece.{LastPiece, TheVariants.Whole, TheVariants.Number, TheVariants.Word, TheVariants.Str, TheVariants.Escape, TheVariants.Broken}
 use Rattle.qm_frame.specs.declared.{judging.Judged.Judged, judging.Judged.TheVariants.Taken, judging.Judged.TheVariants.Ends, judging.Judged.TheVariants.Wrong, judging.State.State, framer.Mode.Mode}
 use Rattle.qm_frame.specs.declared.framer.Mode.TheVariants as modes

@@ -1,8 +1,7 @@
 -- Texts that are messages, and texts that messages begin with (this project's own rule).
 use Rattle.std.specs.Prelude.{ℕ, ◌-◌, ◌==◌, nat_lt, nat_le, Bool, true, false, cond, ◌&&◌, List, [], ◌∷◌, ◌++◌, length, take}
-use Rattle.qm_frame.specs.declared.step.FrameFault.{FrameFault, TheVariants.LexError, TheVariants.TooDeep, TheVariants.TooLong}
+use Rattle.qm_frame.specs.{declared.step.FrameFault.FrameFault, declared.step.FrameFault.TheVariants.LexError, declared.step.FrameFault.TheVariants.TooDeep, declared.step.FrameFault.TheVariants.TooLong, Pieces.scans, Pieces.level_of}
 use Rattle.qm_frame.specs.{declared.step.TheConstants.MAX_LENGTH, declared.step.TheConstants.MAX_DEPTH, Bytes.is_opener}
-use Rattle.qm_frame.specs.Pieces.{scans, level_of}
 
 abbrev pub begins_open : List ℕ → Bool
 begins_open [] = false

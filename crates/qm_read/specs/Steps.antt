@@ -5,8 +5,7 @@ use Rattle.qm_json.specs.{declared.value.Json.Json, Members.has_name}
 use Rattle.qm_json.specs.declared.value.Json.TheVariants as json
 use Rattle.qm_frame.specs.declared.step.TheConstants.{MAX_DEPTH}
 use Rattle.qm_read.specs.declared.{fault.JsonFault.JsonFault, fault.JsonFault.TheVariants.Expected, fault.JsonFault.TheVariants.Duplicate, stack.Expect.Expect}
-use Rattle.qm_read.specs.declared.stack.Expect.TheVariants.{Value, ValueOrEnd, NameOrEnd, Colon, CommaOrEnd}
-use Rattle.qm_read.specs.declared.{stack.Open.Open, stack.Open.TheVariants.Arr, stack.Open.TheVariants.Obj, token.Token.Token}
+use Rattle.qm_read.specs.declared.{stack.Expect.TheVariants.Value, stack.Expect.TheVariants.ValueOrEnd, stack.Expect.TheVariants.NameOrEnd, stack.Expect.TheVariants.Colon, stack.Expect.TheVariants.CommaOrEnd, stack.Open.Open, stack.Open.TheVariants.Arr, stack.Open.TheVariants.Obj, token.Token.Token}
 use Rattle.qm_read.specs.declared.token.Token.TheVariants as tokens
 use Rattle.qm_read.specs.Stacks.{State, takes_value, takes_name, ends_array, ends_object, put, left, after_comma}
 

@@ -64,11 +64,7 @@ fn table_for(
             if members.len() < MOST_WALKED {
                 return Ok(None);
             }
-            let names = table_of(alloc, members)?;
-            match Box::new(alloc, names) {
-                Ok(names) => Ok(Some(names)),
-                Err(_) => Err(NoMemory),
-            }
+            Ok(Some(Box::new(alloc, table_of(alloc, members)?)?))
         }
     }
 }
@@ -122,13 +118,9 @@ impl NamedMembers {
     {
         let names = mem::replace(&mut self.names, None);
         let names = with_name(alloc, names, self.members.as_slice(), name.as_slice())?;
-        match self.members.push(Member { name, value }) {
-            Ok(()) => {
-                self.names = names;
-                Ok(())
-            }
-            Err(_) => Err(NoMemory),
-        }
+        self.members.push(Member { name, value })?;
+        self.names = names;
+        Ok(())
     }
 
     /// The members alone.

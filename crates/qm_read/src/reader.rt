@@ -67,10 +67,7 @@ fn give(alloc: Global, top: &mut Open, value: Json) -> Result<(), NoMemory>
     ensures { OnOk result (top.new ≡ stacks.given top.old value) }
 {
     match top {
-        Open::Arr(items) => match items.push(value) {
-            Ok(()) => Ok(()),
-            Err(_) => Err(NoMemory),
-        },
+        Open::Arr(items) => Ok(items.push(value)?),
         Open::Obj(members, name) => {
             let name = mem::replace(name, Text::new(alloc));
             members.push(alloc, name, value)

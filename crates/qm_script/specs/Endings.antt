@@ -3,10 +3,9 @@ use Rattle.std.specs.Prelude.{ℕ, List, ◌++◌, codes, Option, Some, None}
 use Rattle.std.specs.Fmt.{decimal}
 use Rattle.qm_core.specs.declared.entries.StepFault.{StepFault}
 use Rattle.qm_core.specs.declared.entries.StepFault.TheVariants as fault
-use Rattle.qm_script.specs.declared.endings.{PlayEnd.PlayEnd, Refused.Refused, StepWord.StepWord, Stop.Stop}
+use Rattle.qm_script.specs.declared.endings.{PlayEnd.PlayEnd, Refused.Refused, StepWord.StepWord, Stop.Stop, Stop.TheVariants.BadLine, Stop.TheVariants.Step, Stop.TheVariants.SessionsFull, Stop.TheVariants.JournalFull}
 use Rattle.qm_script.specs.declared.endings.PlayEnd.TheVariants as end
 use Rattle.qm_script.specs.declared.endings.StepWord.TheVariants as word
-use Rattle.qm_script.specs.declared.endings.Stop.TheVariants.{BadLine, Step, SessionsFull, JournalFull}
 
 -- why a line was refused, by the refusal of its step; want of memory is none of a step's refusals
 abbrev pub stop_of : StepFault → Stop

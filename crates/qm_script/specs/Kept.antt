@@ -1,5 +1,4 @@
--- What serves the private functions: what the fields of a player keep, and what a line and a script end with
--- (this project's own rule).
+-- What a player keeps, and what a line and a script end with. This serves private functions.
 use Rattle.std.specs.Prelude.{◌≡◌, cond, [], ◌∷◌, is_some, Some, None, Result, Ok, Err}
 use Rattle.std.specs.Option.{option_to_list}
 use Rattle.qm_core.specs.{Legal.past_of, Standing.sessions_of}

@@ -3,8 +3,7 @@ use Rattle.std.specs.Prelude.{ℕ, ◌+◌, ◌*◌, ◌^◌, ◌-◌, ◌%◌, 
 use Rattle.std.specs.{List.starts_with, List.list_all, Option.option_and_then, Option.option_or, Str.bytes_eq}
 use Rattle.qm_base.specs.Numerals.{number_of}
 use Rattle.qm_core.specs.Texts.{cause_of}
-use Rattle.qm_script.specs.declared.orders.Order.{Order}
-use Rattle.qm_script.specs.declared.orders.Order.TheVariants.{Open, Text, Feed, Admit, Start, Finish, Take, Eof, Drop}
+use Rattle.qm_script.specs.declared.orders.Order.{Order, TheVariants.Open, TheVariants.Text, TheVariants.Feed, TheVariants.Admit, TheVariants.Start, TheVariants.Finish, TheVariants.Take, TheVariants.Eof, TheVariants.Drop}
 
 -- what follows a word at the front of a line
 abbrev pub after_word : List ℕ → List ℕ → Option (List ℕ)

@@ -74,10 +74,7 @@ fn keep(inputs: &mut Vec<Input>, alloc: Global, taken: Taken) -> Result<(), NoMe
     ensures { IfOk result (λ _. inputs.new.items ≡ inputs.old.items ++ input_of taken ∷ []) }
 {
     let input = make_input(alloc, taken)?;
-    match inputs.push(input) {
-        Ok(()) => Ok(()),
-        Err(_) => Err(NoMemory),
-    }
+    Ok(inputs.push(input)?)
 }
 
 fn push(

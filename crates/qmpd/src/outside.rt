@@ -52,13 +52,8 @@ fn read_file<R: Files>(alloc: Global, rt: &R, name: &[u8]) -> Result<Text, ReadF
     };
     match fs::open(rt, path) {
         Ok(mut file) => read_whole(alloc, &mut file),
-        Err(fault) => {
-            if fault.kind() == ErrorKind::NotFound {
-                Err(ReadFault::Missing)
-            } else {
-                Err(ReadFault::Failed)
-            }
-        }
+        Err(fault) if fault.kind() == ErrorKind::NotFound => Err(ReadFault::Missing),
+        Err(_) => Err(ReadFault::Failed),
     }
 }
 
@@ -126,12 +121,10 @@ impl<W: Write> Sink for OutSink<W> {
     ghost faults = { λ s. s.faults };
 
     fn put(&mut self, piece: &[u8]) -> Result<(), SinkFailed> {
-        match self.writer.write_all(piece) {
-            Ok(()) => Ok(()),
-            Err(_) => {
-                self.faults = self.faults.saturating_add(1);
-                Err(SinkFailed)
-            }
+        if self.writer.write_all(piece).is_err() {
+            self.faults = self.faults.saturating_add(1);
+            return Err(SinkFailed);
         }
+        Ok(())
     }
 }

@@ -75,24 +75,20 @@ fn count(word: &[u8]) -> Option<u64>
 fn journal_option(option: &[u8], number: &[u8]) -> Option<u64>
     ensures { result ≡ journal_option_of option.now number.now }
 {
-    if option == b"--journal".as_slice() {
-        count(number)
-    } else {
-        None
+    if option != b"--journal".as_slice() {
+        return None;
     }
+    count(number)
 }
 
 fn replay_named(name: &[u8], entries: u64) -> Option<Replay<'_>>
     ensures { result ≡ replay_named_of name.now entries }
 {
-    if is_positional(name) && entries >= 1 && entries <= MOST_ENTRIES {
-        Some(Replay {
-            script: name,
-            entries,
-        })
-    } else {
-        None
+    if !is_positional(name) || entries < 1 || entries > MOST_ENTRIES {
+        return None;
     }
+    let script = name;
+    Some(Replay { script, entries })
 }
 
 fn replay_bounded<'a>(option: &[u8], number: &[u8], name: &'a [u8]) -> Option<Replay<'a>>
