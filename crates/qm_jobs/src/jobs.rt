@@ -29,7 +29,7 @@ pub enum JobFault {
     JobExists,
     /// The verb is not for a job of this status.
     NotInThisState(Status),
-    /// The table has 256 jobs.
+    /// The table has 256 jobs, and none of them has the id.
     JobsFull,
     /// No memory was left.
     Memory,
@@ -159,7 +159,7 @@ impl Jobs {
         }
     }
 
-    /// Starts a job of 1 to 1,000,000 units: it passes created and stands at running. `JobExists`
+    /// Starts a job of so many units: it passes created and stands at running. `JobExists`
     /// comes exactly where its id is in the table, and `JobsFull` exactly where it is not and 256
     /// jobs are. An error leaves the table as it was.
     pub fn start(

@@ -12,8 +12,8 @@ use qm_plan::{Names, Period, PeriodList, Raised};
 use std::alloc::Global;
 use std::marker::Model;
 
-/// What is sent of the events that are raised: of each key at most one event a period, and the
-/// latest at its end. Contracts see the periods, and the open windows in the order of their keys.
+/// What is sent of the events that are raised: where moments never go back, of each key at most one
+/// event a period, and the latest at its end; of an event without a period each. Contracts see the periods, and the open windows in the order of their keys.
 #[derive(Drop)]
 pub struct Throttle {
     periods: PeriodList,
