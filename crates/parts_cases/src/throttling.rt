@@ -294,31 +294,51 @@ fn told(alloc: Global, throttle: &mut Throttle, ask: Ask) -> Result<SentList, Fa
     }
 }
 
-#[test]
-fn calls_send(rt: HostRuntime) -> Result<(), Fail> {
-    let tables = [
-        KEYED_THROTTLE,
-        BEFORE_A_DEADLINE,
-        AT_A_DEADLINE,
-        PAST_A_DEADLINE,
-        KEPT_EVENTS,
-        ENDS_IN_ORDER,
-        ENDS_OUT_OF_ORDER,
-        ENDS_BY_NAME,
-        NO_PERIOD,
-        KINDS_OF_KEYS,
-        FAR_TICK,
-    ];
-    for calls in tables {
-        let mut throttle = Throttle::new(rt.alloc(), periods(rt.alloc())?);
-        for (ask, lines, due) in calls {
-            let sent = told(rt.alloc(), &mut throttle, *ask)?;
-            assert_eq!(rt; sent.len(), lines.len());
-            for (event, line) in sent.as_slice().iter().zip(lines.iter()) {
-                assert_eq!(rt; shown(rt.alloc(), event)?.as_slice(), line.as_bytes());
-            }
-            assert_eq!(rt; throttle.due(), *due);
+/// The events, each on a line.
+fn all_shown(alloc: Global, sent: &SentList) -> Result<Text, Fail> {
+    let mut all = Text::new(alloc);
+    for event in sent.as_slice() {
+        all.extend(shown(alloc, event)?.as_slice())?;
+        all.push(b'\n')?;
+    }
+    Ok(all)
+}
+
+fn all_lines(alloc: Global, lines: &[&str]) -> Result<Text, Fail> {
+    let mut all = Text::new(alloc);
+    for line in lines {
+        all.extend(line.as_bytes())?;
+        all.push(b'\n')?;
+    }
+    Ok(all)
+}
+
+/// Whether each call of a table sends its events and has its deadline after it.
+fn is_as_told(alloc: Global, calls: &[Call]) -> Result<bool, Fail> {
+    let mut throttle = Throttle::new(alloc, periods(alloc)?);
+    for (ask, lines, due) in calls {
+        let sent = told(alloc, &mut throttle, *ask)?;
+        let shown = all_shown(alloc, &sent)?;
+        if shown.as_slice() != all_lines(alloc, lines)?.as_slice() || throttle.due() != *due {
+            return Ok(false);
         }
     }
+    Ok(true)
+}
+
+#[test]
+fn calls_send(rt: HostRuntime) -> Result<(), Fail> {
+    assert!(rt; is_as_told(rt.alloc(), KEYED_THROTTLE)?);
+    assert!(rt; is_as_told(rt.alloc(), BEFORE_A_DEADLINE)?);
+    assert!(rt; is_as_told(rt.alloc(), AT_A_DEADLINE)?);
+    assert!(rt; is_as_told(rt.alloc(), PAST_A_DEADLINE)?);
+    assert!(rt; is_as_told(rt.alloc(), KEPT_EVENTS)?);
+    assert!(rt; is_as_told(rt.alloc(), ENDS_IN_ORDER)?);
+    assert!(rt; is_as_told(rt.alloc(), ENDS_OUT_OF_ORDER)?);
+    assert!(rt; is_as_told(rt.alloc(), ENDS_BY_NAME)?);
+    assert!(rt; is_as_told(rt.alloc(), NO_PERIOD)?);
+    assert!(rt; is_as_told(rt.alloc(), KINDS_OF_KEYS)?);
+    assert!(rt; is_as_told(rt.alloc(), FAR_TICK)?);
+    assert!(rt; !is_as_told(rt.alloc(), &[(Tick(9), &[], Some(1))])?);
     Ok(())
 }

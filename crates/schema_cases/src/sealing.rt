@@ -262,19 +262,55 @@ fn names_are_found_in_a_sealed_schema(rt: HostRuntime) -> Result<(), Fail> {
         panic!(&rt; "the table is not good");
     }
     let schema = Schema::seal(rt.alloc(), parts)?;
-    assert!(rt; schema.commands() == 3 && schema.events() == 1 && schema.types() == 10);
+    assert!(rt; schema.commands() == 3);
+    assert!(rt; schema.events() == 1);
+    assert!(rt; schema.types() == 10);
     assert!(rt; schema.find_command(b"set") == Some(1));
     assert!(rt; schema.find_command(b"NOTE") == None);
     assert!(rt; schema.find_event(b"NOTE") == Some(0));
     assert!(rt; schema.find_event(b"set") == None);
-    assert!(rt; schema.find_member(3, b"y") == Some(1));
-    assert!(rt; schema.find_member(3, b"z") == None);
-    assert!(rt; schema.find_member(2, b"a") == None);
-    assert!(rt; schema.find_value(2, b"c") == Some(2));
-    assert!(rt; schema.find_value(3, b"x") == None);
-    assert!(rt; schema.command(2).arg == ArgType::AnyObject);
-    assert_eq!(rt; schema.event(0).place, 1);
-    assert!(rt; schema.kind(6).json_kind() == Some(JsonKind::Array));
-    assert!(rt; schema.parts().kinds.as_slice()[8].json_kind() == None);
+    assert!(rt; member_at(&rt, &schema, 3, b"y") == Some(1));
+    assert!(rt; member_at(&rt, &schema, 3, b"z") == None);
+    assert!(rt; member_at(&rt, &schema, 2, b"a") == None);
+    assert!(rt; value_at(&rt, &schema, 2, b"c") == Some(2));
+    assert!(rt; value_at(&rt, &schema, 3, b"x") == None);
+    assert!(rt; takes_any_object(&schema, 2));
+    assert!(rt; place_of_event(&schema, 0) == Some(1));
+    assert!(rt; kind_at(&schema, 6) == Some(JsonKind::Array));
+    assert!(rt; kind_at(&schema, 8) == None);
     Ok(())
+}
+
+fn member_at(rt: &impl Abort, schema: &Schema, id: u32, name: &[u8]) -> Option<u32> {
+    if id >= schema.types() {
+        panic!(rt; "no such type");
+    }
+    schema.find_member(id, name)
+}
+
+fn value_at(rt: &impl Abort, schema: &Schema, id: u32, name: &[u8]) -> Option<u32> {
+    if id >= schema.types() {
+        panic!(rt; "no such type");
+    }
+    schema.find_value(id, name)
+}
+
+fn takes_any_object(schema: &Schema, id: u32) -> bool {
+    id < schema.commands() && schema.command(id).arg == ArgType::AnyObject
+}
+
+fn place_of_event(schema: &Schema, id: u32) -> Option<u32> {
+    if id < schema.events() {
+        Some(schema.event(id).place)
+    } else {
+        None
+    }
+}
+
+fn kind_at(schema: &Schema, id: u32) -> Option<JsonKind> {
+    if id < schema.types() {
+        schema.kind(id).json_kind()
+    } else {
+        None
+    }
 }
