@@ -237,7 +237,7 @@ fn chain(rt: &(impl AllocGlobal + Abort), length: u32, last: &str) -> Result<Par
     let mut parts = no_parts(rt);
     add(rt, &mut parts, "enum a b")?;
     for i in 0..length {
-        let next = i + 2;
+        let next = i.saturating_add(2);
         let line = format!(in rt.alloc(); "object t{i}:0 tag=0 0>{next} 1>{next}")?;
         add(rt, &mut parts, line.as_str())?;
     }
