@@ -1,0 +1,11 @@
+//! The definitions of a schema: its expressions without what conditions take out (QAPI code
+//! generation guide, "Schema syntax").
+#![tactic(auto)]
+
+pub mod definition;
+mod saying;
+
+pub use definition::{
+    Definition, DefinitionList, EnumValue, EnumValueList, Flags, Member, MemberList, Names, Part,
+    PartList, Sort, TypeName, Variant, VariantList,
+};
