@@ -1,0 +1,7 @@
+//! The rules that the definitions of a schema have to keep (QAPI code generation guide, "Schema
+//! syntax", "Naming rules and reserved names").
+#![tactic(auto)]
+
+pub mod fault;
+
+pub use fault::{Blame, CheckFault, CheckRule};
