@@ -34,11 +34,12 @@ pub over_so : {tells : Option (List NamedText)} {names others : List (List ℕ)}
 over_so e p f = record { text = p.text; told = λ files e. f files (p.told files e); given = λ files have. f files (p.given files (rw e have)) }
 
 -- what follows for one name more
-pub over_more : {tells : Option (List NamedText)} {P Q R : List NamedText → Type 0} (names : List (List ℕ)) (name : List ℕ) → is_named names name ≡ false →
-    OverFiles tells names P → OverFiles tells (name ∷ []) Q → ((files : List NamedText) → P files → Q files → R files) → OverFiles tells (names ++ name ∷ []) R
-over_more names name new p q f = record {
+pub over_more : {tells now : Option (List NamedText)} {P Q R : List NamedText → Type 0} (names : List (List ℕ)) (name : List ℕ) (all : List (List ℕ)) →
+    names ++ name ∷ [] ≡ all → is_named names name ≡ false → now ≡ tells → OverFiles tells names P → OverFiles now (name ∷ []) Q →
+    ((files : List NamedText) → P files → Q files → R files) → OverFiles tells all R
+over_more names name all whole new same p q f = rw (← whole) record {
   text = λ other. cond (bytes_eq other name) (q.text other) (p.text other);
-  told = λ files e. f files (p.told files e) (q.told files e);
+  told = λ files e. f files (p.told files e) (q.told files (same ∙ e));
   given = λ files have. f files (p.given files (λ other e. before files other have e (unlike other e))) (q.given files (λ other e. last files other have e));
 } where
   more : (other : List ℕ) → is_named (names ++ name ∷ []) other ≡ (is_named names other || (bytes_eq other name || false))

@@ -5,7 +5,8 @@ use Rattle.qapi_load.proofs.loading.Loading.first.Goals as goal
 
 pub returns-in-Err-clause-given : goal.returns-in-Err-clause-given
 returns-in-Err-clause-given g c = over_so (search rules) c.in-Err.ensures.given (λ files here answer.
-    main_faulty files c.args.main.now c.in-Err.fault (here answer))
+    let found = here answer in
+    main_faulty files c.args.main.now c.in-Err.fault (search rules))
 
 pub returns-clause-given : goal.returns-clause-given
 returns-clause-given g c =
