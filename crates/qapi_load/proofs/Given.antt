@@ -1,6 +1,6 @@
 -- What a library gave under names.
 use Rattle.std.proofs.Common.{◌≡◌, ℕ, Bool, true, false, cond, ◌||◌, List, [], ◌∷◌, ◌++◌, Option, Some, None, Result, refl, ap, sym, ◌∙◌}
-use Rattle.std.specs.{List.list_any, Str.bytes_eq}
+use Rattle.std.specs.{Str.bytes_eq}
 use Rattle.std.proofs.{Math.Bool.or-false, Math.Bool.or-true, lemmas.Option.none-some, lemmas.Option.same_Some, lemmas.Slice.Eq.bytes_eq-Decides}
 use Rattle.std.proofs.lemmas.List.Folds.{list_any-append}
 use Rattle.qm_base.specs.Names.{is_named}

@@ -49,10 +49,10 @@ loop-sources-preserved g c =
     let next = c.in_ok-loading-in-Ask in
     let begins = ap (λ (r : Reading). r.begun) next.ensures.begun in
     record {
-  sound = search rules;
-  given = over_more c.loop-sources.loading.reading.begun c.in-Ask.wanted.name next.loading.reading.begun (search rules) (search rules)
-    c.loop-sources.invariant.same c.loop-sources.invariant.given next.ensures.given (λ files here found. let reads = found tt in search rules);
-  same = search rules;
-  kept = search rules;
-  kept_name = search rules;
-}
+      sound = search rules;
+      given = over_more c.loop-sources.loading.reading.begun c.in-Ask.wanted.name next.loading.reading.begun (search rules) (search rules)
+          c.loop-sources.invariant.same c.loop-sources.invariant.given next.ensures.given (λ files here found. let reads = found tt in search rules);
+      same = search rules;
+      kept = search rules;
+      kept_name = search rules;
+    }

@@ -1,4 +1,4 @@
-use Rattle.std.proofs.Common.{rules, arith, ◌≡◌, ◌∙◌, sym}
+use Rattle.std.proofs.Common.{rules, arith}
 use Rattle.qapi_load.specs.declared.loading.Loading.{Loading}
 use Rattle.qapi_load.proofs.{Given.over_so, Outcomes.faulty_next, Outcomes.opens}
 use Rattle.qapi_load.proofs.loading.Loading.enter.Goals as goal
