@@ -1,2 +1,3 @@
 mod Folders
+mod Given
 mod Outcomes

@@ -1,5 +1,5 @@
 -- Files that are open, one more or one fewer.
-use Rattle.std.proofs.Common.{◌≡◌, ◌<◌, ◌≤◌, ◌+◌, ◌-◌, ℕ, suc, List, [], ◌∷◌, ◌++◌, length, Result, Ok, Err, refl, ap, sym, ◌∙◌, arith, zero, length-append, lit<}
+use Rattle.std.proofs.Common.{◌≡◌, ◌<◌, ◌-◌, ℕ, suc, List, [], ◌∷◌, ◌++◌, length, Result, Ok, Err, refl, ap, sym, ◌∙◌, arith, zero, length-append, lit<}
 use Rattle.qapi_load.specs.{Files.NamedText, Files.text_of, declared.fault.LoadFault.LoadFault, declared.fault.TheConstants.MOST_FILES}
 use Rattle.qapi_load.specs.declared.{loading.Loading.Loading, open_file.OpenFile.OpenFile, open_file.Wanted.Wanted, source.Source.Source, reading.Place.Place, reading.Reading.Reading}
 use Rattle.qapi_load.specs.Loading.{on, after_expressions, after_file, begin, finish, nothing_read, parsed, sources_of}

@@ -1,5 +1,5 @@
 -- Texts by name (this project's own rule).
-use Rattle.std.specs.Prelude.{ℕ, cond, List, [], ◌∷◌, Option, option_map, find}
+use Rattle.std.specs.Prelude.{ℕ, List, Option, option_map, find}
 use Rattle.std.specs.Str.{bytes_eq}
 
 pub record NamedText : Type 0 where

@@ -1,10 +1,10 @@
 -- How the files of a schema are read one after another. This serves private functions.
-use Rattle.std.specs.Prelude.{◌≡◌, ◌<◌, ◌≤◌, ◌+◌, ◌-◌, ℕ, List, [], ◌∷◌, length, Option, Some, None, Result, Ok, Err}
+use Rattle.std.specs.Prelude.{◌≡◌, ◌<◌, ◌≤◌, ◌+◌, ◌-◌, ℕ, true, false, List, [], ◌∷◌, length, Option, Some, None, Result, Ok, Err}
 use Rattle.std.specs.Vec.Iter.{into_iter_items}
 use Rattle.qapi_tree.specs.declared.tree.Expr.{Expr}
-use Rattle.qapi_load.specs.{Files.NamedText, declared.fault.LoadFault.LoadFault, declared.fault.TheConstants.MOST_FILES}
-use Rattle.qapi_load.specs.declared.loading.{Loading.Loading, Move.Move, Move.TheVariants.Done, Move.TheVariants.On, Move.TheVariants.Ask, Progress.Progress}
-use Rattle.qapi_load.specs.declared.loading.Progress.TheVariants as goes
+use Rattle.qm_base.specs.Names.{is_named}
+use Rattle.qapi_load.specs.{Files.NamedText, Files.text_of, declared.fault.LoadFault.LoadFault, declared.fault.TheConstants.MOST_FILES}
+use Rattle.qapi_load.specs.declared.loading.{Loading.Loading, Move.Move, Move.TheVariants.Done, Move.TheVariants.On, Move.TheVariants.Ask}
 use Rattle.qapi_load.specs.declared.open_file.{OpenFile.OpenFile, Turn.Turn, Turn.TheVariants.Over, Turn.TheVariants.Stop, Wanted.Wanted}
 use Rattle.qapi_load.specs.{declared.reading.Place.Place, declared.reading.Reading.Reading, declared.source.Source.Source, Loading.on, Loading.after_expressions, Loading.after_file, Loading.finish}
 
@@ -21,10 +21,10 @@ abbrev pub taken : Read → Turn → Reading → Result Reading LoadFault
 taken read Over r = Ok r
 taken read (Stop w) r = read r w.place w.name
 
--- a file that is to be read is not one too many
+-- a file that is to be read is a new one, and not one too many
 abbrev pub HasRoom : Turn → Reading → Type 0
 HasRoom Over r = Unit {0}
-HasRoom (Stop w) r = length r.begun < MOST_FILES
+HasRoom (Stop w) r = (length r.begun < MOST_FILES) × (is_named r.begun w.name ≡ false)
 
 -- no file was begun or read whole
 pub record SameFiles (old new : Reading) : Type 0 where
@@ -74,27 +74,28 @@ outcome_moved told (Done sources) = Ok sources
 outcome_moved told (On l) = outcome_of told l
 outcome_moved told (Ask l w) = outcome_with told l w
 
-abbrev pub outcome_after : List NamedText → Result Progress LoadFault → Result (List Source) LoadFault
-outcome_after told (Ok (goes.On l)) = outcome_of told l
-outcome_after told (Ok (goes.Done sources)) = Ok sources
-outcome_after told (Err fault) = Err fault
-
 -- the files that are open, and those that were read whole, are those that were begun
 pub record Sound (l : Loading) : Type 0 where
   pub begun : length l.reading.finished + length l.outer.items + 1 ≡ length l.reading.begun
   pub within : length l.reading.begun ≤ MOST_FILES
 
--- what a reading has become is sound, and further on than it was; a file that is to be read is not one too many
-abbrev pub IsFurther : ℕ → Move → Type 0
-IsFurther before (Done sources) = Unit {0}
-IsFurther before (On l) = Sound l × (before < length l.reading.begun + length l.reading.finished)
-IsFurther before (Ask l w) = Sound l × (before ≤ length l.reading.begun + length l.reading.finished) × (length l.reading.begun < MOST_FILES)
+-- what a reading has become is sound; a file was read whole, or a new one is to be read
+abbrev pub IsFurther : Reading → Move → Type 0
+IsFurther old (Done sources) = Unit {0}
+IsFurther old (On l) = Sound l × (l.reading.begun ≡ old.begun) × (length old.finished < length l.reading.finished)
+IsFurther old (Ask l w) = Sound l × SameFiles old l.reading × HasRoom (Stop w) l.reading
 
-abbrev pub GoesFurther : ℕ → Progress → Type 0
-GoesFurther before (goes.On l) = Sound l × (before < length l.reading.begun + length l.reading.finished)
-GoesFurther before (goes.Done sources) = Unit {0}
+-- a file's expressions, after its name, or the fault
+abbrev pub Fetches : Result (List ℕ × List Expr) LoadFault → Result (List Expr) LoadFault → Type 0
+Fetches (Ok found) right = right ≡ Ok found.1
+Fetches (Err fault) right = right ≡ Err fault
 
--- a file's name and its expressions, or the fault
-abbrev pub Fetches : Result (List ℕ × List Expr) LoadFault → List ℕ → Result (List Expr) LoadFault → Type 0
-Fetches (Ok found) name right = (found.0 ≡ name) × (right ≡ Ok found.1)
-Fetches (Err fault) name right = right ≡ Err fault
+-- the files have these texts under the names
+abbrev pub HaveTexts : List (List ℕ) → (List ℕ → Option (List ℕ)) → List NamedText → Type 0
+HaveTexts names text files = (name : List ℕ) → is_named names name ≡ true → text_of name files ≡ text name
+
+-- what holds of the files that a library tells, and of all files that have the texts which it gave under the names
+pub record OverFiles (tells : Option (List NamedText)) (names : List (List ℕ)) (Holds : List NamedText → Type 0) : Type 0 where
+  pub text : List ℕ → Option (List ℕ)
+  pub told : (files : List NamedText) → tells ≡ Some files → Holds files
+  pub given : (files : List NamedText) → HaveTexts names text files → Holds files

@@ -1,8 +1,9 @@
 ghost use Rattle.std.specs.Prelude.{◌≡◌, ◌≢◌, ◌<◌, ◌≤◌, ◌+◌, length, [], ◌∷◌, ◌++◌, List, Some, IfOk, OnOk, IfErr, Err};
+ghost use Rattle.qapi_load.specs.Answers.{AnswersFrom};
 ghost use Rattle.qapi_load.specs.Causes.{HasCause, IsAnswer};
 ghost use Rattle.qapi_load.specs.Files.{NamedText, text_of};
-ghost use Rattle.qapi_load.specs.Loading.{memory_fault, parsed, sources_of};
-ghost use Rattle.qapi_load.specs.Steps.{Fetches, IsFurther, Sound, left_in, GoesFurther, outcome_after, outcome_moved, outcome_of, outcome_on, outcome_with};
+ghost use Rattle.qapi_load.specs.Loading.{begin, memory_fault, nothing_read, parsed, sources_of};
+ghost use Rattle.qapi_load.specs.Steps.{Fetches, IsFurther, OverFiles, Sound, left_in, outcome_moved, outcome_of, outcome_on, outcome_with};
 
 use crate::fault::{LoadFault, LoadRule, MOST_FILES, owned, refused, unread};
 use crate::library::{Library, LibraryFault};
@@ -42,7 +43,7 @@ impl Loading {
         requires sound { Sound self }
         requires end { left_in self.file ≡ [] }
         ensures ok { IfOk result (λ move. (told : List NamedText) → outcome_of told self ≡ outcome_moved told move) }
-        ensures further { IfOk result (IsFurther (length self.reading.begun + length self.reading.finished)) }
+        ensures further { IfOk result (IsFurther self.reading) }
         ensures err { IfErr result (λ fault. fault ≡ memory_fault) }
     {
         let Loading {
@@ -65,7 +66,7 @@ impl Loading {
     fn advance(self, alloc: Global) -> Result<Move, LoadFault>
         requires { Sound self }
         ensures ok { IfOk result (λ move. (told : List NamedText) → outcome_of told self ≡ outcome_moved told move) }
-        ensures further { IfOk result (IsFurther (length self.reading.begun + length self.reading.finished)) }
+        ensures further { IfOk result (IsFurther self.reading) }
         ensures err { IfErr result (λ fault. fault ≢ memory_fault → (told : List NamedText) → outcome_of told self ≡ Err fault) }
         ensures cause { IfErr result (λ fault. fault.rule ≢ LoadRule.ReadFault) }
     {
@@ -99,14 +100,34 @@ fn opened(name: Text, exprs: TreeList) -> OpenFile
     }
 }
 
+/// The expressions of a file for which a library gave this answer.
+fn found(
+    alloc: Global,
+    place: Place,
+    name: Text,
+    text: Option<Text>,
+) -> Result<(Text, TreeList), LoadFault>
+    ensures value { IsAnswer result → Fetches result (parsed place name text) }
+    ensures name { IfOk result (λ found. found.0 ≡ name) }
+    ensures cause { IfErr result (λ fault. fault.rule ≢ LoadRule.ReadFault) }
+{
+    let Some(text) = text else {
+        return Err(refused(LoadRule::NoFile, place, name));
+    };
+    let exprs = expressions(alloc, name.as_slice(), text.as_slice())?;
+    Ok((name, exprs))
+}
+
 /// The expressions of a file that a library has.
+#[tactic(auto, using(crate::proofs::Given::over_all))]
 fn fetched<L: Library>(
     alloc: Global,
     library: &mut L,
     wanted: Wanted,
 ) -> Result<(Text, TreeList), LoadFault>
-    ensures told { (told : List NamedText) → L.files library.old ≡ Some told → IsAnswer result →
-        Fetches result wanted.name (parsed wanted.place wanted.name (text_of wanted.name told)) }
+    ensures given { OverFiles (L.files library.old) (wanted.name ∷ []) (λ files. IsAnswer result →
+        Fetches result (parsed wanted.place wanted.name (text_of wanted.name files))) }
+    ensures name { IfOk result (λ found. found.0 ≡ wanted.name) }
     ensures same { L.files library.new ≡ L.files library.old }
     ensures cause { HasCause result
         (record { count = L.faults library.old; name = L.failed_name library.old })
@@ -115,26 +136,15 @@ fn fetched<L: Library>(
     let Wanted { place, name } = wanted;
     let file = owned(alloc, name.copy(alloc))?;
     match library.text(alloc, name.as_slice()) {
-        Ok(Some(text)) => {
-            let exprs = expressions(alloc, name.as_slice(), text.as_slice())?;
-            Ok((name, exprs))
-        }
-        Ok(None) => Err(refused(LoadRule::NoFile, place, name)),
+        Ok(text) => found(alloc, place, name, text),
         Err(LibraryFault::Failed) => Err(unread(alloc, file)),
         Err(LibraryFault::Memory) => Err(LoadFault::memory(alloc)),
     }
 }
 
-/// A reading that goes on, or has ended.
-pub enum Progress {
-    /// It goes on.
-    On(Loading),
-    /// It has ended.
-    Done(SourceList),
-}
-
 impl Loading {
     /// Opens the file that is to be read next.
+    #[tactic(auto, using(crate::proofs::Given::over_all))]
     fn enter<L: Library>(
         self,
         alloc: Global,
@@ -143,11 +153,10 @@ impl Loading {
     ) -> Result<Loading, LoadFault>
         requires sound { Sound self }
         requires room { length self.reading.begun < MOST_FILES }
-        ensures told { (told : List NamedText) → L.files library.old ≡ Some told → IsAnswer result →
-            outcome_with told self wanted ≡ outcome_on told result }
+        ensures given { OverFiles (L.files library.old) (wanted.name ∷ []) (λ files. IsAnswer result →
+            outcome_with files self wanted ≡ outcome_on files result) }
         ensures sound { IfOk result Sound }
-        ensures further { IfOk result (λ next.
-            length self.reading.begun + length self.reading.finished < length next.reading.begun + length next.reading.finished) }
+        ensures begun { IfOk result (λ next. next.reading ≡ begin self.reading wanted.name) }
         ensures same { L.files library.new ≡ L.files library.old }
         ensures cause { HasCause result
             (record { count = L.faults library.old; name = L.failed_name library.old })
@@ -185,33 +194,13 @@ fn kept(outer: &mut Vec<OpenFile>, file: OpenFile) -> Result<(), NoMemory>
 }
 
 impl Loading {
-    /// Reads on, up to the end of a file or into the next one.
-    fn step<L: Library>(self, alloc: Global, library: &mut L) -> Result<Progress, LoadFault>
-        requires { Sound self }
-        ensures told { (told : List NamedText) → L.files library.old ≡ Some told → IsAnswer result →
-            outcome_of told self ≡ outcome_after told result }
-        ensures further { IfOk result (GoesFurther (length self.reading.begun + length self.reading.finished)) }
-        ensures same { L.files library.new ≡ L.files library.old }
-        ensures cause { HasCause result
-            (record { count = L.faults library.old; name = L.failed_name library.old })
-            (record { count = L.faults library.new; name = L.failed_name library.new }) }
-    {
-        match self.advance(alloc) {
-            Ok(Move::Done(sources)) => Ok(Progress::Done(sources)),
-            Ok(Move::On(next)) => Ok(Progress::On(next)),
-            Ok(Move::Ask(next, wanted)) => match next.enter(alloc, library, wanted) {
-                Ok(next) => Ok(Progress::On(next)),
-                Err(fault) => Err(fault),
-            },
-            Err(fault) => Err(fault),
-        }
-    }
-
     /// A schema whose main file was opened.
+    #[tactic(auto, using(crate::proofs::Given::over_all))]
     fn first<L: Library>(alloc: Global, library: &mut L, main: &[u8]) -> Result<Loading, LoadFault>
-        ensures told { (told : List NamedText) → L.files library.old ≡ Some told → IsAnswer result →
-            sources_of told main.now ≡ outcome_on told result }
+        ensures given { OverFiles (L.files library.old) (main.now ∷ []) (λ files. IsAnswer result →
+            sources_of files main.now ≡ outcome_on files result) }
         ensures sound { IfOk result Sound }
+        ensures begun { IfOk result (λ first. first.reading ≡ begin nothing_read main.now) }
         ensures same { L.files library.new ≡ L.files library.old }
         ensures cause { HasCause result
             (record { count = L.faults library.old; name = L.failed_name library.old })
@@ -252,7 +241,7 @@ pub fn load_files<L: Library>(
     library: &mut L,
     main: &[u8],
 ) -> Result<SourceList, LoadFault>
-    ensures told { (told : List NamedText) → L.files library.old ≡ Some told → IsAnswer result → result ≡ sources_of told main.now }
+    ensures given { AnswersFrom (L.files library.old) main.now result }
     ensures same { L.files library.new ≡ L.files library.old }
     ensures cause { HasCause result
         (record { count = L.faults library.old; name = L.failed_name library.old })
@@ -260,9 +249,10 @@ pub fn load_files<L: Library>(
 {
     let mut loading = Loading::first(alloc, library, main)?;
     loop {
-        match loading.step(alloc, library)? {
-            Progress::On(next) => loading = next,
-            Progress::Done(sources) => return Ok(sources),
+        match loading.advance(alloc)? {
+            Move::Done(sources) => return Ok(sources),
+            Move::On(next) => loading = next,
+            Move::Ask(next, wanted) => loading = next.enter(alloc, library, wanted)?,
         }
     }
 }

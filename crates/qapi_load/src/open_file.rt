@@ -101,7 +101,7 @@ impl OpenFile {
     ) -> Result<Option<Wanted>, LoadFault>
         ensures ok { IfOk result (λ wanted. (read : Read) →
             after_expressions read self.old.name reading.old (left_in self.old) ≡ goes_on read wanted self.new reading.new) }
-        ensures room { IfOk result (λ wanted. IfSome wanted (λ w. length reading.new.begun < MOST_FILES)) }
+        ensures room { IfOk result (λ wanted. IfSome wanted (λ w. HasRoom (Turn.Stop w) reading.new)) }
         ensures err { IfErr result (λ fault. fault ≢ memory_fault → (read : Read) →
             after_expressions read self.old.name reading.old (left_in self.old) ≡ Err fault) }
         ensures cause { IfErr result (λ fault. fault.rule ≢ LoadRule.ReadFault) }

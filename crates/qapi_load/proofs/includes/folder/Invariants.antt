@@ -1,4 +1,4 @@
-use Rattle.std.proofs.Common.{◌≡◌, ◌≤◌, take, drop, length}
+use Rattle.std.proofs.Common.{◌≡◌, ◌≤◌, take, drop}
 use Rattle.qapi_load.specs.Loading.{folder_of}
 use Rattle.qapi_load.proofs.Folders.{folder_with}
 use Rattle.qapi_load.proofs.includes.folder.Given as goal
