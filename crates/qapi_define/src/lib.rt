@@ -2,8 +2,12 @@
 //! generation guide, "Schema syntax").
 #![tactic(auto)]
 
+pub mod conditions;
 pub mod definition;
+mod lists;
+mod references;
 mod saying;
+mod trees;
 
 pub use definition::{
     Definition, DefinitionList, EnumValue, EnumValueList, Flags, Member, MemberList, Names, Part,
