@@ -3,5 +3,7 @@
 #![tactic(auto)]
 
 pub mod fault;
+pub mod names;
 
 pub use fault::{Blame, CheckFault, CheckRule};
+pub use names::{is_name, without_star};
