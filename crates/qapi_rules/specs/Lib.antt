@@ -1,2 +1,3 @@
 pub mod Blames
+pub mod BuiltIns
 pub mod Names

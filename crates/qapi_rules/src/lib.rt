@@ -2,8 +2,10 @@
 //! syntax", "Naming rules and reserved names").
 #![tactic(auto)]
 
+pub mod built_ins;
 pub mod fault;
 pub mod names;
 
+pub use built_ins::{built_in, is_built_in};
 pub use fault::{Blame, CheckFault, CheckRule};
 pub use names::{is_name, without_star};
