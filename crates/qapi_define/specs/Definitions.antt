@@ -1,6 +1,6 @@
 -- The definitions of a schema, without what conditions take out (QAPI code generation guide,
 -- "Schema syntax").
-use Rattle.std.specs.Prelude.{ℕ, Bool, true, false, if◌then◌else◌, List, [], codes, Option, Some, None, unwrap_or, find}
+use Rattle.std.specs.Prelude.{ℕ, Bool, true, false, if◌then◌else◌, List, codes, Option, Some, None, unwrap_or, find}
 use Rattle.std.specs.{List.filter_map, Option.is_some, Option.option_or, Option.option_map, Option.option_and_then, Str.bytes_eq}
 use Rattle.qapi_tree.specs.declared.tree.{Tree.Tree, TreeMember.TreeMember}
 use Rattle.qapi_load.specs.declared.source.Source.{Source}

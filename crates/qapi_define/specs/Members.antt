@@ -1,6 +1,6 @@
 -- Values of enums, members, branches, alternatives and features as they are written, without those
 -- whose conditions do not hold (QAPI code generation guide, "Schema syntax").
-use Rattle.std.specs.Prelude.{ℕ, ◌==◌, Bool, true, false, ◌||◌, if◌then◌else◌, List, [], ◌∷◌, codes, Option, Some, None, unwrap_or, find}
+use Rattle.std.specs.Prelude.{ℕ, ◌==◌, Bool, false, ◌||◌, if◌then◌else◌, List, [], ◌∷◌, codes, Option, None, unwrap_or, find}
 use Rattle.std.specs.{List.filter_map, Option.option_or, Option.option_map, Option.option_and_then, Str.bytes_eq}
 use Rattle.qapi_tree.specs.declared.tree.{Tree.Tree, TreeMember.TreeMember}
 use Rattle.qapi_define.specs.declared.definition.{EnumValue.EnumValue, Member.Member, TypeName.TypeName, Variant.Variant}
