@@ -28,6 +28,7 @@ sort_of m =
 abbrev pub flag_among : List TreeMember → List ℕ → Bool → Bool
 flag_among keys name default = unwrap_or (option_and_then flag_of (value_at keys name)) default
 
+-- the flags of a definition: `gen` and `success-response` are true where they are left out
 abbrev pub flags_among : List TreeMember → Flags
 flags_among keys = record {
   boxed = flag_among keys (codes "boxed") false;
