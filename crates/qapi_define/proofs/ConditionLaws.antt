@@ -8,7 +8,7 @@ use Rattle.qapi_tree.specs.declared.tree.Tree.TheVariants as trees
 use Rattle.qapi_tree.specs.declared.tree.Tree.TheOpen as layer
 use Rattle.qapi_tree.specs.declared.tree.{Tree.TheFolds.fold-TreeMember, Tree.TheFolds.fold-roll-Tree, Tree.TheFolds.fold-roll-TreeMember, TreeMember.TreeMember}
 use Rattle.qapi_define.specs.declared.conditions.Frame.{Frame, TheVariants.Ask, TheVariants.All, TheVariants.Any, TheVariants.Not}
-use Rattle.qapi_define.specs.Conditions.{is_all, is_any, is_not, Truth, KeyAndTruth, choice_in, truth_layer, member_layer, truth, holds}
+use Rattle.qapi_define.specs.Conditions.{is_all, is_any, Truth, KeyAndTruth, choice_in, truth_layer, member_layer, truth, holds}
 use Rattle.qapi_define.specs.Frames.{through, answer, keyed, first_choice, choice_of}
 
 pub truth-Flag : (defines : List (List ℕ)) (b : Bool) → truth defines (trees.Flag b) ≡ record { holds = false; each = [] }

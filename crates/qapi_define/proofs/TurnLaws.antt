@@ -1,5 +1,5 @@
 -- How many frames are still to be gone through.
-use Rattle.std.proofs.Common.{◌≡◌, ◌+◌, ◌<◌, ◌≤◌, arith, ℕ, Bool, List, [], ◌∷◌, ◌++◌, map, refl, ap, sym, ◌∙◌}
+use Rattle.std.proofs.Common.{◌≡◌, ◌+◌, ℕ, Bool, List, [], ◌∷◌, map, refl, ap, sym, ◌∙◌}
 use Rattle.qapi_tree.specs.declared.tree.Tree.{Tree, TheVariants.rolls-Flag, TheVariants.rolls-Str, TheVariants.rolls-List, TheVariants.rolls-Dict}
 use Rattle.qapi_tree.specs.declared.tree.Tree.TheVariants as trees
 use Rattle.qapi_tree.specs.declared.tree.Tree.TheOpen as layer

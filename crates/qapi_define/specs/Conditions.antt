@@ -11,10 +11,12 @@ pub record Truth : Type 0 where
   pub holds : Bool
   pub each : List Bool
 
+-- a member of an object, its value by its truth
 pub record KeyAndTruth : Type 0 where
   pub key : List ℕ
   pub truth : Truth
 
+-- the keys of an object that is a condition
 abbrev pub is_all : List ℕ → Bool
 is_all key = bytes_eq key (codes "all")
 
@@ -42,9 +44,11 @@ truth_layer defines (layer.Tree-F.Str name) = record { holds = is_named defines 
 truth_layer defines (layer.Tree-F.List items) = record { holds = false; each = map (λ t. t.holds) items }
 truth_layer defines (layer.Tree-F.Dict members) = record { holds = choice_in members; each = [] }
 
+-- the same of a member
 abbrev pub member_layer : TreeMember-F Truth KeyAndTruth → KeyAndTruth
 member_layer m = record { key = m.key; truth = m.tree }
 
+-- the truth of a value, whatever its depth
 abbrev pub truth : List (List ℕ) → Tree → Truth
 truth defines = fold-Tree Truth KeyAndTruth (truth_layer defines) member_layer
 

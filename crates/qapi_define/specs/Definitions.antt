@@ -1,6 +1,6 @@
 -- The definitions of a schema, without what conditions take out (QAPI code generation guide,
 -- "Schema syntax").
-use Rattle.std.specs.Prelude.{ℕ, Bool, true, false, if◌then◌else◌, List, [], codes, Option, Some, None, unwrap_or, find}
+use Rattle.std.specs.Prelude.{ℕ, Bool, true, false, if◌then◌else◌, List, codes, Option, Some, None, unwrap_or, find}
 use Rattle.std.specs.{List.filter_map, Option.is_some, Option.option_or, Option.option_map, Option.option_and_then, Str.bytes_eq}
 use Rattle.qapi_tree.specs.declared.tree.{Tree.Tree, TreeMember.TreeMember}
 use Rattle.qapi_load.specs.declared.source.Source.{Source}
@@ -28,6 +28,7 @@ sort_of m =
 abbrev pub flag_among : List TreeMember → List ℕ → Bool → Bool
 flag_among keys name default = unwrap_or (option_and_then flag_of (value_at keys name)) default
 
+-- the flags of a definition: `gen` and `success-response` are true where they are left out
 abbrev pub flags_among : List TreeMember → Flags
 flags_among keys = record {
   boxed = flag_among keys (codes "boxed") false;

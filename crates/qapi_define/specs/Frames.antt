@@ -8,6 +8,7 @@ use Rattle.qapi_tree.specs.declared.tree.Tree.TheOpen as layer
 use Rattle.qapi_define.specs.declared.conditions.Frame.{Frame, TheVariants.Ask, TheVariants.All, TheVariants.Any, TheVariants.Not}
 use Rattle.qapi_define.specs.Conditions.{KeyAndTruth, choice, choice_in, truth, holds}
 
+-- what a frame makes of a value
 abbrev pub through : List (List ℕ) → Frame → Bool → Bool
 through defines (Ask tree) b = holds defines tree.now
 through defines (All trees) b = b && list_all (holds defines) trees.now
@@ -23,21 +24,26 @@ answer defines (f ∷ fs) b = through defines f (answer defines fs b)
 abbrev pub Leaves : List (List ℕ) → List Frame → Bool → List Frame → Bool → Type 0
 Leaves defines new b old value = answer defines new b ≡ answer defines old value
 
+-- what a member of a condition makes of it
 abbrev pub choice_of : List (List ℕ) → TreeMember → Bool
 choice_of defines m = choice m.key (truth defines m.tree)
 
+-- a member by its key and its truth
 abbrev pub keyed : List (List ℕ) → TreeMember → KeyAndTruth
 keyed defines m = record { key = m.key; truth = truth defines m.tree }
 
+-- the same of the first member
 abbrev pub first_choice : List (List ℕ) → List TreeMember → Bool
 first_choice defines members = choice_in (map (keyed defines) members)
 
+-- one layer, with the count of each inner value in its place
 abbrev pub turns_layer : Tree-F ℕ ℕ → ℕ
 turns_layer (layer.Tree-F.Flag b) = 1
 turns_layer (layer.Tree-F.Str text) = 1
 turns_layer (layer.Tree-F.List items) = total (λ n. n + 1) items + 1
 turns_layer (layer.Tree-F.Dict members) = total (λ n. n) members + 2
 
+-- the same of a member
 abbrev pub turns_member : TreeMember-F ℕ ℕ → ℕ
 turns_member m = m.tree
 
@@ -53,6 +59,7 @@ items_turns items = total (λ t. turns_of t + 1) items
 abbrev pub members_turns : List TreeMember → ℕ
 members_turns members = total (λ m. turns_of m.tree) members
 
+-- the same for a frame
 abbrev pub turns_in : Frame → ℕ
 turns_in (Ask tree) = turns_of tree.now
 turns_in (All trees) = items_turns trees.now + 1

@@ -1,6 +1,6 @@
 -- Values of enums, members, branches, alternatives and features as they are written, without those
 -- whose conditions do not hold (QAPI code generation guide, "Schema syntax").
-use Rattle.std.specs.Prelude.{ℕ, ◌==◌, Bool, true, false, ◌||◌, if◌then◌else◌, List, [], ◌∷◌, codes, Option, Some, None, unwrap_or, find}
+use Rattle.std.specs.Prelude.{ℕ, ◌==◌, Bool, false, ◌||◌, if◌then◌else◌, List, [], ◌∷◌, codes, Option, None, unwrap_or, find}
 use Rattle.std.specs.{List.filter_map, Option.option_or, Option.option_map, Option.option_and_then, Str.bytes_eq}
 use Rattle.qapi_tree.specs.declared.tree.{Tree.Tree, TreeMember.TreeMember}
 use Rattle.qapi_define.specs.declared.definition.{EnumValue.EnumValue, Member.Member, TypeName.TypeName, Variant.Variant}
@@ -22,6 +22,7 @@ written_type tree = option_or (reference_in tree) (type_among (keys_of tree))
 abbrev pub kept : {A : Type 0} → List (List ℕ) → Tree → Option A → Option A
 kept defines tree said = if is_kept defines (keys_of tree) then said else None
 
+-- a feature by its name
 abbrev pub written_feature : List (List ℕ) → Tree → Option (List ℕ)
 written_feature defines tree = kept defines tree (written_name tree)
 
@@ -33,6 +34,7 @@ written_features defines tree = option_map (filter_map (written_feature defines)
 abbrev pub features_among : List (List ℕ) → List TreeMember → List (List ℕ)
 features_among defines keys = unwrap_or (option_and_then (written_features defines) (value_at keys (codes "features"))) []
 
+-- the key is one of the two
 abbrev pub is_name_or_features : TreeMember → Bool
 is_name_or_features m = bytes_eq m.key (codes "name") || bytes_eq m.key (codes "features")
 
@@ -46,6 +48,7 @@ abbrev pub value_named : List (List ℕ) → List TreeMember → List ℕ → En
 value_named defines keys name =
     record { name = name; features = features_among defines keys; features_first = are_features_first keys }
 
+-- a value of an enum, where it is kept
 abbrev pub written_value : List (List ℕ) → Tree → Option EnumValue
 written_value defines tree = kept defines tree (option_map (value_named defines (keys_of tree)) (written_name tree))
 
@@ -64,6 +67,7 @@ abbrev pub member_of_type : List (List ℕ) → TreeMember → TypeName → Memb
 member_of_type defines m type =
     record { name = without_star m.key; optional = has_star m.key; of = type; features = features_among defines (keys_of m.tree) }
 
+-- a member of an object type, where it is kept
 abbrev pub written_member : List (List ℕ) → TreeMember → Option Member
 written_member defines m = kept defines m.tree (option_map (member_of_type defines m) (written_type m.tree))
 
@@ -71,5 +75,6 @@ written_member defines m = kept defines m.tree (option_map (member_of_type defin
 abbrev pub variant_of_type : TreeMember → TypeName → Variant
 variant_of_type m type = record { name = m.key; of = type }
 
+-- a branch or an alternative, where it is kept
 abbrev pub written_variant : List (List ℕ) → TreeMember → Option Variant
 written_variant defines m = kept defines m.tree (option_map (variant_of_type m) (written_type m.tree))

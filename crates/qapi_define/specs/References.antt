@@ -20,6 +20,7 @@ only_text [] = None
 only_text (tree ∷ []) = text_of tree
 only_text (tree ∷ next ∷ trees) = None
 
+-- what refers to a type, by its outermost layer
 abbrev pub layer_reference : Tree-F Tree TreeMember → Option TypeName
 layer_reference (layer.Tree-F.Str name) = Some (type_named name)
 layer_reference (layer.Tree-F.List items) = option_map arrays_of (only_text items)

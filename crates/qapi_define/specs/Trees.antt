@@ -4,6 +4,7 @@ use Rattle.std.specs.{Option.option_map, Option.option_and_then, Str.bytes_eq}
 use Rattle.qapi_tree.specs.declared.tree.{Tree.Tree, Tree.out-Tree, Tree.TheOpen.Tree-F, TreeMember.TreeMember}
 use Rattle.qapi_tree.specs.declared.tree.Tree.TheOpen as layer
 
+-- what a value is, by its outermost layer: a string, one of the words, a list, an object
 abbrev pub layer_text : Tree-F Tree TreeMember → Option (List ℕ)
 layer_text (layer.Tree-F.Str text) = Some text
 layer_text _ = None

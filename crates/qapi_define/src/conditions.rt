@@ -186,7 +186,7 @@ fn apply<'a>(
 /// Whether a condition holds where these names are defined: a name holds where it is defined, `all`
 /// of nothing holds, and `any` of nothing does not (QAPI code generation guide, "Configuring the
 /// schema"). A list of what is still to be done stands in place of recursion, since conditions nest
-/// without bound.
+/// without bound. `NoMemory` comes where a growth is refused.
 #[tactic(auto, using(qapi_tree::proofs::CountLaws::pushed))]
 pub fn holds(alloc: Global, defines: &[Text], condition: &Tree) -> Result<bool, NoMemory>
     ensures { IfOk result (λ answer. answer ≡ holds_of defines.now condition.now) }
@@ -200,7 +200,8 @@ pub fn holds(alloc: Global, defines: &[Text], condition: &Tree) -> Result<bool, 
     Ok(value)
 }
 
-/// Whether the condition among an object's keys holds; without one it is kept.
+/// Whether the condition among an object's keys holds; without one it is kept. `NoMemory` comes
+/// where a growth is refused.
 pub fn is_kept(alloc: Global, defines: &[Text], keys: &[TreeMember]) -> Result<bool, NoMemory>
     ensures { IfOk result (λ answer. answer ≡ is_kept_of defines.now keys.now) }
 {

@@ -1,4 +1,4 @@
-use Rattle.std.proofs.Common.{Bool, IfOk, subst, rules, sym, ◌∙◌}
+use Rattle.std.proofs.Common.{Bool, IfOk, subst, sym, ◌∙◌}
 use Rattle.qapi_define.specs.Frames.{Leaves}
 use Rattle.qapi_define.proofs.ConditionLaws.{all_chosen, any_chosen}
 use Rattle.qapi_define.proofs.conditions.ask_member.Goals as goal
