@@ -154,10 +154,7 @@ fn clash_inside<'a>(alloc: Global, parts: &'a [Part]) -> Result<Option<&'a [u8]>
 /// features, in the order of the text (QAPI code generation guide, "Naming rules and reserved
 /// names").
 #[tactic(auto, unfolding(crate::specs::Naming::clash))]
-pub fn clash<'a>(
-    alloc: Global,
-    definition: &'a Definition,
-) -> Result<Option<&'a [u8]>, NoMemory>
+pub fn clash<'a>(alloc: Global, definition: &'a Definition) -> Result<Option<&'a [u8]>, NoMemory>
     ensures { IfOk result (λ name. option_copied name ≡ Naming.clash definition.now) }
 {
     clash_inside(alloc, definition.parts.as_slice())

@@ -1,5 +1,5 @@
 use Rattle.qapi_define.specs.declared.definition.Member.{Member}
-use Rattle.std.proofs.Common.{refl, rules}
+use Rattle.std.proofs.Common.{refl}
 use Rattle.std.specs.Option.{option_or}
 use Rattle.qapi_rules.specs.Naming.{clash_of_member, repeated}
 use Rattle.qapi_rules.proofs.Gathered.{judged}
