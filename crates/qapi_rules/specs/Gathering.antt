@@ -12,6 +12,7 @@ pub record Gathers (old : List (List ℕ)) (name : List ℕ) (again : Option (Li
   pub added : (names : List (List ℕ)) → HasNames old names → HasNames new (names ++ name ∷ [])
 
 -- a thing is judged by a rule after those before it, whose names are in the set, and its own is added
-pub record Judges {A B : Type 0} (name_of : A → List ℕ) (rule : List A → A → Option B) (old : List (List ℕ)) (x : A) (answer : Option B) (new : List (List ℕ)) : Type 0 where
+pub record Judges {A B : Type 0} (name_of : A → List ℕ) (rule : List A → A → Option B)
+    (old : List (List ℕ)) (x : A) (answer : Option B) (new : List (List ℕ)) : Type 0 where
   pub told : (before : List A) → HasNames old (map name_of before) → answer ≡ rule before x
   pub added : (before : List A) → HasNames old (map name_of before) → HasNames new (map name_of (before ++ x ∷ []))

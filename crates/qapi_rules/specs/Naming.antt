@@ -92,10 +92,12 @@ without_response d = cond (is_command d.sort && not d.flags.success_response) (S
 abbrev pub redefined : List Definition → Definition → Option (List ℕ)
 redefined before d = cond (is_built_in d.name) (Some d.name) (taken (map (λ x. x.name) before) d.name)
 
--- the first fault of a definition, by the name that is redefined and the name that clashes, where there are such names
+-- the first fault of a definition, where these are the names that are redefined and that clash
 abbrev pub faults_of : Definition → Option (List ℕ) → Option (List ℕ) → Option CheckFault
 faults_of d redefined clash =
-    first_of (fault BadName d (bad_name d) ∷ fault NoSuccessResponse d (without_response d) ∷ fault Redefined d redefined ∷ fault MemberClash d clash ∷ [])
+    first_of
+    (fault BadName d (bad_name d) ∷ fault NoSuccessResponse d (without_response d)
+    ∷ fault Redefined d redefined ∷ fault MemberClash d clash ∷ [])
 
 -- the first fault of a definition after those before it
 abbrev pub names_rules : List Definition → Definition → Option CheckFault

@@ -1,5 +1,7 @@
 ghost use Rattle.std.specs.Prelude.{◌≡◌, ℕ, List, [], IfOk, cond};
-ghost use Rattle.qapi_define.specs.declared.definition.{EnumValue.EnumValue as EnumValueOf, Member.Member as MemberOf, Variant.Variant as VariantOf};
+ghost use Rattle.qapi_define.specs.declared.definition.EnumValue.{EnumValue as EnumValueOf};
+ghost use Rattle.qapi_define.specs.declared.definition.Member.{Member as MemberOf};
+ghost use Rattle.qapi_define.specs.declared.definition.Variant.{Variant as VariantOf};
 ghost use Rattle.std.specs.Option.{option_copied};
 ghost use Rattle.qapi_define.specs.Saying.{first_some};
 ghost use Rattle.qapi_rules.specs.Naming;
@@ -29,7 +31,8 @@ fn clash_of_feature<'a>(
     set: &mut NameSet<'a>,
     feature: &'a Text,
 ) -> Result<Option<&'a [u8]>, NoMemory>
-    ensures { IfOk result (λ name. Judges (λ (n : List ℕ). n) taken set.old feature.now (option_copied name) set.new) }
+    ensures { IfOk result (λ name.
+        Judges (λ (n : List ℕ). n) taken set.old feature.now (option_copied name) set.new) }
 {
     let own = gather(set, feature.as_slice())?;
     Ok(own)
@@ -52,7 +55,8 @@ fn clash_of_value<'a>(
     set: &mut NameSet<'a>,
     value: &'a EnumValue,
 ) -> Result<Option<&'a [u8]>, NoMemory>
-    ensures { IfOk result (λ name. Judges (λ (v : EnumValueOf). v.name) Naming.clash_of_value set.old value.now (option_copied name) set.new) }
+    ensures { IfOk result (λ name.
+        Judges (λ (v : EnumValueOf). v.name) Naming.clash_of_value set.old value.now (option_copied name) set.new) }
 {
     let own = gather(set, value.name.as_slice())?;
     let inside = repeated(alloc, value.features.as_slice())?;
@@ -64,7 +68,8 @@ fn clash_of_member<'a>(
     set: &mut NameSet<'a>,
     member: &'a Member,
 ) -> Result<Option<&'a [u8]>, NoMemory>
-    ensures { IfOk result (λ name. Judges (λ (m : MemberOf). m.name) Naming.clash_of_member set.old member.now (option_copied name) set.new) }
+    ensures { IfOk result (λ name.
+        Judges (λ (m : MemberOf). m.name) Naming.clash_of_member set.old member.now (option_copied name) set.new) }
 {
     let own = gather(set, member.name.as_slice())?;
     let inside = repeated(alloc, member.features.as_slice())?;
@@ -75,7 +80,8 @@ fn clash_of_variant<'a>(
     set: &mut NameSet<'a>,
     variant: &'a Variant,
 ) -> Result<Option<&'a [u8]>, NoMemory>
-    ensures { IfOk result (λ name. Judges (λ (v : VariantOf). v.name) Naming.clash_of_variant set.old variant.now (option_copied name) set.new) }
+    ensures { IfOk result (λ name.
+        Judges (λ (v : VariantOf). v.name) Naming.clash_of_variant set.old variant.now (option_copied name) set.new) }
 {
     let own = gather(set, variant.name.as_slice())?;
     Ok(own)

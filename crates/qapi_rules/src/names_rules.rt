@@ -82,7 +82,8 @@ fn judge<'a>(
     set: &mut NameSet<'a>,
     definition: &'a Definition,
 ) -> Result<Option<Blame<'a>>, NoMemory>
-    ensures { IfOk result (λ blame. Judges (λ (d : DefinitionOf). d.name) Naming.names_rules set.old definition.now (option_map told blame) set.new) }
+    ensures { IfOk result (λ blame.
+        Judges (λ (d : DefinitionOf). d.name) Naming.names_rules set.old definition.now (option_map told blame) set.new) }
 {
     let again = gather(set, definition.name.as_slice())?;
     let clash = clash(alloc, definition)?;
