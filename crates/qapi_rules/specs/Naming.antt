@@ -78,7 +78,7 @@ clash_in _ = None
 unfoldable pub clash : Definition → Option (List ℕ)
 clash d = first_some clash_in d.parts
 
--- The rules of a definition, in their order.
+-- The rules of a definition, in their order. What is told after bad names is a name, so it has no star.
 
 abbrev pub is_command : Sort → Bool
 is_command sort.Command = true
