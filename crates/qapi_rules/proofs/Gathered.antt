@@ -3,7 +3,7 @@ use Rattle.std.proofs.Common.{◌≡◌, ◌<◌, ◌+◌, ◌||◌, ℕ, Bool, 
 use Rattle.std.specs.Option.{option_or}
 use Rattle.std.proofs.{Math.Seq.drop-cons, Math.Seq.take-suc, lemmas.List.map-append, lemmas.List.map-id, lemmas.List.Folds.list_any-append}
 use Rattle.qapi_types.specs.{Choices.stands, Sets.AddsName, Sets.HasNames}
-use Rattle.qapi_rules.specs.{Blames.over, Gathering.Gathers, Gathering.Judges, Gathering.taken}
+use Rattle.qapi_rules.specs.{Blames.over, Gathering.Gathers, Gathering.Judges, Clashes.taken}
 
 or-false : (b : Bool) → (b || false) ≡ b
 or-false true = refl

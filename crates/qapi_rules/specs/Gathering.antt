@@ -1,10 +1,7 @@
 -- Names that are gathered one after the other. This serves private functions.
-use Rattle.std.specs.Prelude.{◌≡◌, ℕ, List, [], ◌∷◌, ◌++◌, map, cond, Option, Some, None}
-use Rattle.qapi_types.specs.{Choices.stands, Sets.HasNames}
-
--- the name, where it is among the names before
-abbrev pub taken : List (List ℕ) → List ℕ → Option (List ℕ)
-taken names name = cond (stands name names) (Some name) None
+use Rattle.std.specs.Prelude.{◌≡◌, ℕ, List, [], ◌∷◌, ◌++◌, map, Option}
+use Rattle.qapi_types.specs.Sets.{HasNames}
+use Rattle.qapi_rules.specs.Clashes.{taken}
 
 -- a name is added to a set of those before it, and given back where it is among them
 pub record Gathers (old : List (List ℕ)) (name : List ℕ) (again : Option (List ℕ)) (new : List (List ℕ)) : Type 0 where
