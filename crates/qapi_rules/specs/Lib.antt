@@ -1,5 +1,7 @@
+pub mod BadNames
 pub mod Blames
 pub mod BuiltIns
+pub mod Clashes
 pub mod Gathering
 pub mod Names
-pub mod Naming
+pub mod NamesRules

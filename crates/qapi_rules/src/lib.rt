@@ -2,12 +2,12 @@
 //! syntax", "Naming rules and reserved names").
 #![tactic(auto)]
 
+mod bad_names;
 pub mod built_ins;
 mod clashes;
 pub mod fault;
 pub mod names;
 pub mod names_rules;
-mod naming;
 
 pub use built_ins::{built_in, is_built_in};
 pub use fault::{Blame, CheckFault, CheckRule};
