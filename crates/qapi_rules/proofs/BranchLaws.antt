@@ -3,8 +3,8 @@ use Rattle.std.proofs.Common.{◌≡◌, ◌<◌, ◌≤◌, ◌+◌, ◌-◌, �
 use Rattle.std.specs.{List.flat_map, Option.option_or}
 use Rattle.std.proofs.lemmas.{Grind.flat_map-append, List.append-nil}
 use Rattle.qapi_define.specs.declared.definition.{Definition.Definition, Member.Member}
-use Rattle.qapi_define.specs.Saying.{first_some}
-use Rattle.qapi_rules.specs.{Meanings.Entity, References.base_definition, References.enum_in_line, References.enum_of_member, References.line_from, References.own_members}
+use Rattle.qapi_define.specs.Saying.{base_members_of, first_some}
+use Rattle.qapi_rules.specs.{Meanings.Entity, References.base_definition, References.enum_in_line, References.enum_of_branches, References.enum_of_member, References.line_from, References.members_in_line, References.own_members}
 
 or-assoc : {A : Type 0} (o p q : Option A) → option_or o (option_or p q) ≡ option_or (option_or o p) q
 or-assoc None p q = refl
@@ -40,3 +40,10 @@ enum_end n turn defs name next found whole l h = ap (λ (m : ℕ). option_or (en
   where
     none : n - turn ≡ 0
     none = omega arith
+
+-- the enum of the members that are written out, or else of the line of the base
+pub enums_joined : (defs : List Definition) (d : Definition) (name : List ℕ) (written : List Member) (base : Option Definition) (first second all : Option Entity) → written ≡ base_members_of d → first ≡ first_some (enum_of_member defs name) written → base ≡ base_definition defs d → second ≡ enum_in_line (length defs) defs name base → all ≡ option_or first second → all ≡ enum_of_branches defs d name
+enums_joined defs d name written base first second all w f b s a =
+    a ∙ ap (λ (o : Option Entity). option_or o second) (f ∙ ap (first_some (enum_of_member defs name)) w)
+    ∙ ap (option_or (first_some (enum_of_member defs name) (base_members_of d))) (s ∙ ap (enum_in_line (length defs) defs name) b)
+    ∙ sym (first_some_append (enum_of_member defs name) (base_members_of d) (members_in_line (length defs) defs (base_definition defs d)))

@@ -1,7 +1,7 @@
 -- Names whose first places are noted.
-use Rattle.std.proofs.Common.{◌≡◌, ◌+◌, ◌<◌, ◌≤◌, ℕ, Bool, not, true, false, cond, nat_lt, List, [], ◌∷◌, ◌++◌, map, length, take, get_or, Option, Some, None, is_some, position, Result, Ok, Err, OnOk, refl, ap, sym, subst, ◌∙◌, arith, length-append}
+use Rattle.std.proofs.Common.{◌≡◌, ◌+◌, ◌<◌, ◌≤◌, ℕ, Bool, not, true, false, cond, nat_eq, nat_lt, List, [], ◌∷◌, ◌++◌, map, length, take, get_or, Option, Some, None, is_some, position, Result, Ok, Err, OnOk, refl, ap, sym, subst, ◌∙◌, arith, length-append}
 use Rattle.std.specs.{Borrow.Bor, List.position_or_len, Map.lookup, Option.option_or, Str.bytes_eq}
-use Rattle.std.proofs.{lemmas.List.map_more, lemmas.List.length-map, lemmas.List.length-take-le, lemmas.List.Folds.position_or_len_push, lemmas.Slice.Eq.bytes_eq-Decides, lemmas.Grind.common_steps, lemmas.Bool.Decides.nat_tests}
+use Rattle.std.proofs.{lemmas.List.map_more, lemmas.List.length-map, lemmas.List.length-take-le, lemmas.List.Folds.position_or_len_push, lemmas.List.Sums.prefix_len-le-length, lemmas.Slice.Eq.bytes_eq-Decides, lemmas.Grind.common_steps, lemmas.Bool.Decides.nat_tests}
 use Rattle.qapi_types.specs.Lookups.{place_of}
 use Rattle.qapi_rules.specs.Directories.{place_in, ArePlaces}
 
@@ -34,9 +34,12 @@ kept es name place h other = by_case (bytes_eq other name) refl
     by_case true e = stays (place_in es other) (Some place) (subst (λ (n : List ℕ). is_some (place_in es n) ≡ true) (sym ((bytes_eq-Decides other name).0 e)) h)
     by_case false e = or-none (place_in es other)
 
+first-place : (m n more long : ℕ) (b : Bool) → m ≤ n → long ≡ n + 1 → more ≡ cond (nat_eq m n) (n + cond b 0 1) m → cond (nat_lt more long) (Some more) None ≡ option_or (cond (nat_lt m n) (Some m) None) (cond b (Some n) None)
+first-place m n more long b l e h = grind (arith, common_steps, nat_tests)
+
 -- the first place in a list with one more
 position-more : (p : List ℕ → Bool) (xs : List (List ℕ)) (y : List ℕ) → position p (xs ++ y ∷ []) ≡ option_or (position p xs) (cond (p y) (Some (length xs)) None)
-position-more p xs y = grind (arith, common_steps, nat_tests, position_or_len_push p xs y, length-append xs (y ∷ []))
+position-more p xs y = first-place (position_or_len p xs) (length xs) (position_or_len p (xs ++ y ∷ [])) (length (xs ++ y ∷ [])) (p y) (prefix_len-le-length (λ x. not (p x)) xs) (omega (arith, length-append xs (y ∷ []))) (position_or_len_push p xs y)
 
 -- one more of the names is noted
 pub places_more : {K : Type 0} (f : K → List ℕ) (ks : List K) (i : ℕ) (d : K) (old new : List (Bor (List ℕ) × ℕ)) → i < length ks → ArePlaces (map f (take i ks)) old → ((other : List ℕ) → place_in new other ≡ option_or (place_in old other) (cond (bytes_eq other (f (get_or ks i d))) (Some i) None)) → ArePlaces (map f (take (i + 1) ks)) new

@@ -1,6 +1,9 @@
 pub mod Blames
 pub mod BuiltIns
+pub mod Cycles
 pub mod Directories
+pub mod Gathering
 pub mod Meanings
 pub mod Names
+pub mod Naming
 pub mod References

@@ -72,6 +72,7 @@ fn branches(definition: &Definition) -> &[Variant]
 }
 
 /// The places of the base and of the types of the branches.
+#[tactic(auto, using(crate::proofs::CycleLaws::joined))]
 fn references_of(
     alloc: Global,
     table: &DefinitionTable,
@@ -85,16 +86,27 @@ fn references_of(
     Ok(row)
 }
 
-/// The places of the base and of the types of the branches of each definition.
-pub fn reference_graph(alloc: Global, table: &DefinitionTable) -> Result<Vec<TypeList>, NoMemory>
-    ensures { IfOk result (λ graph. graph.items ≡ Cycles.reference_graph table.now) }
+fn references_of_each(
+    alloc: Global,
+    table: &DefinitionTable,
+    definitions: &[Definition],
+) -> Result<Vec<TypeList>, NoMemory>
+    ensures { IfOk result (λ graph.
+        graph.items ≡ map (Cycles.references_of table.now) definitions.now) }
 {
     let mut graph = Vec::new(alloc);
-    for definition in table.definitions() {
+    for definition in definitions {
         let row = references_of(alloc, table, definition)?;
         graph.push(row)?;
     }
     Ok(graph)
+}
+
+/// The places of the base and of the types of the branches of each definition.
+pub fn reference_graph(alloc: Global, table: &DefinitionTable) -> Result<Vec<TypeList>, NoMemory>
+    ensures { IfOk result (λ graph. graph.items ≡ Cycles.reference_graph table.now) }
+{
+    references_of_each(alloc, table, table.definitions())
 }
 
 /// Whether a thing leads to itself.

@@ -126,15 +126,25 @@ fn bad_reference<'a>(
     None
 }
 
-/// The first fault of references: over definitions in reading order, rule by rule (QAPI code
-/// generation guide, "Schema syntax"). It takes no memory.
-pub fn references_pass<'a>(table: &DefinitionTable<'a>) -> Option<Blame<'a>>
-    ensures { option_map told result ≡ References.references_pass table.now }
+fn first_bad<'a>(
+    table: &DefinitionTable<'a>,
+    definitions: &'a [Definition],
+) -> Option<Blame<'a>>
+    ensures { option_map told result ≡
+        first_some (References.bad_reference table.now) definitions.now }
 {
-    for definition in table.definitions() {
+    for definition in definitions {
         if let Some(blame) = bad_reference(table, definition) {
             return Some(blame);
         }
     }
     None
+}
+
+/// The first fault of references: over definitions in reading order, rule by rule (QAPI code
+/// generation guide, "Schema syntax"). It takes no memory.
+pub fn references_pass<'a>(table: &DefinitionTable<'a>) -> Option<Blame<'a>>
+    ensures { option_map told result ≡ References.references_pass table.now }
+{
+    first_bad(table, table.definitions())
 }
