@@ -21,15 +21,16 @@ in-line n defs name d =
     ∙ first_some_append (enum_of_member defs name) (flat_map own_members (line_from n defs (base_definition defs d))) (own_members d ++ [])
     ∙ ap (λ (ms : List Member). option_or (enum_in_line n defs name (base_definition defs d)) (first_some (enum_of_member defs name) ms)) (append-nil (own_members d))
 
-pub enum_step : (n turn : ℕ) (defs : List Definition) (name : List ℕ) (d : Definition) (next : Option Definition) (found after whole : Option Entity) → turn < n → next ≡ Some d → after ≡ option_or (first_some (enum_of_member defs name) (own_members d)) found → option_or (enum_in_line (n - turn) defs name next) found ≡ whole → option_or (enum_in_line (n - (turn + 1)) defs name (base_definition defs d)) after ≡ whole
-enum_step n turn defs name d next found after whole l e a h =
-    ap (λ (o : Option Entity). option_or (enum_in_line (n - (turn + 1)) defs name (base_definition defs d)) o) a
+pub enum_step : (n turn end : ℕ) (defs : List Definition) (name : List ℕ) (d : Definition) (next base : Option Definition) (written : List Member) (here found after whole : Option Entity) → turn < end → end ≡ n → next ≡ Some d → written ≡ own_members d → here ≡ first_some (enum_of_member defs name) written → after ≡ option_or here found → base ≡ base_definition defs d → option_or (enum_in_line (n - turn) defs name next) found ≡ whole → option_or (enum_in_line (n - (turn + 1)) defs name base) after ≡ whole
+enum_step n turn end defs name d next base written here found after whole l f e w t a b h =
+    ap (λ (o : Option Definition). option_or (enum_in_line (n - (turn + 1)) defs name o) after) b
+    ∙ ap (option_or (enum_in_line (n - (turn + 1)) defs name (base_definition defs d))) (a ∙ ap (λ (o : Option Entity). option_or o found) (t ∙ ap (first_some (enum_of_member defs name)) w))
     ∙ or-assoc (enum_in_line (n - (turn + 1)) defs name (base_definition defs d)) (first_some (enum_of_member defs name) (own_members d)) found
     ∙ ap (λ (o : Option Entity). option_or o found) (sym (in-line (n - (turn + 1)) defs name d) ∙ ap (λ (m : ℕ). enum_in_line m defs name (Some d)) (sym less))
     ∙ ap (λ (o : Option Definition). option_or (enum_in_line (n - turn) defs name o) found) (sym e) ∙ h
   where
     less : n - turn ≡ suc (n - (turn + 1))
-    less = omega arith
+    less = omega (arith, l, f)
 
 pub enum_none : (n : ℕ) (defs : List Definition) (name : List ℕ) (next : Option Definition) (found whole : Option Entity) → next ≡ None → option_or (enum_in_line n defs name next) found ≡ whole → found ≡ whole
 enum_none zero defs name next found whole e h = h

@@ -6,6 +6,7 @@ use Rattle.std.proofs.lemmas.{Bool.cases_lt, Bool.ltb-true, Bool.Decides.Decides
 use Rattle.qapi_define.specs.declared.definition.{Definition.Definition, Variant.Variant}
 use Rattle.qapi_types.specs.{Chains.has, Chains.row_of, Chains.Refers, Chains.Leads, Chains.by_one, Chains.and_one, Chains.IsInside, Chains.NoneOnCycle, Lookups.place_of}
 use Rattle.qapi_types.proofs.{ChainLaws.either, ChainLaws.left, ChainLaws.right, ChoiceLaws.leads-first}
+use Rattle.qapi_rules.specs.declared.fault.CheckFault.{CheckFault}
 use Rattle.qapi_rules.specs.declared.fault.CheckRule.TheVariants.{BaseCycle}
 use Rattle.qapi_rules.specs.{Blames.over, Meanings.names_of, References.judged}
 use Rattle.qapi_rules.specs.Cycles.{leads_in, is_on_cycle, base_cycle, cycle_fault, cycles_pass, places_of, referred, references_of, reference_graph}
@@ -119,11 +120,12 @@ unfolding is_on_cycle IsDistinct
 on_cycle-decides g a = (leads_in-leads (length g) g a a, λ l. complete (length g) g [] a a (record { apart = tt; within = λ q h. cc }) (omega arith) (walked g a a l))
 
 -- one more of the names
-pub types_more : (defs : List Definition) (vs : List Variant) (i : ℕ) (d : Variant) (base mid new : List ℕ) → i < length vs → mid ≡ base ++ places_of defs (map (λ (v : Variant). v.of.name) (take i vs)) → new ≡ mid ++ places_of defs ((get_or vs i d).of.name ∷ []) → new ≡ base ++ places_of defs (map (λ (v : Variant). v.of.name) (take (i + 1) vs))
-types_more defs vs i d base mid new l m e =
-    e ∙ ap (λ (r : List ℕ). r ++ places_of defs ((get_or vs i d).of.name ∷ [])) m
-    ∙ append_assoc base (places_of defs (map (λ (v : Variant). v.of.name) (take i vs))) (places_of defs ((get_or vs i d).of.name ∷ []))
-    ∙ ap (λ (r : List ℕ). base ++ r) (sym (filter_map-append (place_of (names_of defs)) (map (λ (v : Variant). v.of.name) (take i vs)) ((get_or vs i d).of.name ∷ [])))
+pub types_more : (defs : List Definition) (vs : List Variant) (i : ℕ) (v d : Variant) (base mid new : List ℕ) → i < length vs → v ≡ get_or vs i d → mid ≡ base ++ places_of defs (map (λ (v : Variant). v.of.name) (take i vs)) → new ≡ mid ++ places_of defs (v.of.name ∷ []) → new ≡ base ++ places_of defs (map (λ (v : Variant). v.of.name) (take (i + 1) vs))
+types_more defs vs i v d base mid new l at m e =
+    e ∙ ap (λ (r : List ℕ). r ++ places_of defs (v.of.name ∷ [])) m
+    ∙ append_assoc base (places_of defs (map (λ (v : Variant). v.of.name) (take i vs))) (places_of defs (v.of.name ∷ []))
+    ∙ ap (λ (r : List ℕ). base ++ r) (sym (filter_map-append (place_of (names_of defs)) (map (λ (v : Variant). v.of.name) (take i vs)) (v.of.name ∷ [])))
+    ∙ ap (λ (u : Variant). base ++ places_of defs (map (λ (v : Variant). v.of.name) (take i vs) ++ u.of.name ∷ [])) at
     ∙ ap (λ (ns : List (List ℕ)). base ++ places_of defs ns) (sym (map_more (λ (v : Variant). v.of.name) vs i d l))
 
 -- the places of two lists of names in a row
@@ -181,3 +183,7 @@ none-left g before (d ∷ ds) h a low high l = elim (cases_lt (length before) a)
 -- what the pass lets through is on no cycle
 pub none_on_cycle : (defs : List Definition) → cycles_pass defs ≡ None → NoneOnCycle (reference_graph defs) (length defs)
 none_on_cycle defs h = λ a l. none-left (reference_graph defs) [] defs h a (omega arith) (omega arith)
+
+-- the pass over the graph of the definitions
+pub cycle_found : (defs ds : List Definition) (g : List (List ℕ)) (found : Option CheckFault) → found ≡ over (cycle_fault g) [] ds → g ≡ reference_graph defs → ds ≡ defs → found ≡ cycles_pass defs
+cycle_found defs ds g found f e d = f ∙ ap (λ (h : List (List ℕ)). over (cycle_fault h) [] ds) e ∙ ap (over (cycle_fault (reference_graph defs)) []) d

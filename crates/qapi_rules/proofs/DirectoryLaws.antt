@@ -1,5 +1,5 @@
 -- Names whose first places are noted.
-use Rattle.std.proofs.Common.{◌≡◌, ◌+◌, ◌<◌, ◌≤◌, ℕ, Bool, not, true, false, cond, nat_eq, nat_lt, List, [], ◌∷◌, ◌++◌, map, length, take, get_or, Option, Some, None, is_some, position, Result, Ok, Err, OnOk, refl, ap, sym, subst, ◌∙◌, arith, length-append}
+use Rattle.std.proofs.Common.{◌≡◌, ◌+◌, ◌<◌, ◌≤◌, ℕ, Bool, not, true, false, cond, nat_eq, nat_lt, List, [], ◌∷◌, ◌++◌, map, length, take, get_or, Option, Some, None, option_copied, is_some, position, Result, Ok, Err, OnOk, refl, ap, sym, subst, ◌∙◌, arith, length-append}
 use Rattle.std.specs.{Borrow.Bor, List.position_or_len, Map.lookup, Option.option_or, Str.bytes_eq}
 use Rattle.std.proofs.{lemmas.List.map_more, lemmas.List.length-map, lemmas.List.length-take-le, lemmas.List.Folds.position_or_len_push, lemmas.List.Sums.prefix_len-le-length, lemmas.Slice.Eq.bytes_eq-Decides, lemmas.Grind.common_steps, lemmas.Bool.Decides.nat_tests}
 use Rattle.qapi_types.specs.Lookups.{place_of}
@@ -36,6 +36,11 @@ kept es name place h other = by_case (bytes_eq other name) refl
 
 first-place : (m n more long : ℕ) (b : Bool) → m ≤ n → long ≡ n + 1 → more ≡ cond (nat_eq m n) (n + cond b 0 1) m → cond (nat_lt more long) (Some more) None ≡ option_or (cond (nat_lt m n) (Some m) None) (cond b (Some n) None)
 first-place m n more long b l e h = grind (arith, common_steps, nat_tests)
+
+-- what was looked up is not there
+pub none_from : (o : Option (Bor ℕ)) (p : Option ℕ) → option_copied o ≡ p → is_some o ≡ false → p ≡ None
+none_from None p e h = sym e
+none_from (Some x) p e h = cc
 
 -- the first place in a list with one more
 position-more : (p : List ℕ → Bool) (xs : List (List ℕ)) (y : List ℕ) → position p (xs ++ y ∷ []) ≡ option_or (position p xs) (cond (p y) (Some (length xs)) None)

@@ -138,7 +138,7 @@ abbrev pub enum_in_line : ℕ → List Definition → List ℕ → Option Defini
 enum_in_line n defs name d = first_some (enum_of_member defs name) (members_in_line n defs d)
 
 -- the rules in their order
-abbrev pub bad_reference : List Definition → Definition → Option CheckFault
+unfoldable pub bad_reference : List Definition → Definition → Option CheckFault
 bad_reference defs d = first_of (
     judged UnknownType d (unknown_type defs d)
     ∷ judged BadBase d (bad_base defs d)

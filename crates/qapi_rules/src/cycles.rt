@@ -47,6 +47,17 @@ fn add_base(
     }
 }
 
+fn add_type(
+    row: &mut TypeList,
+    table: &DefinitionTable,
+    variant: &Variant,
+) -> Result<(), NoMemory>
+    ensures { OnOk result (row.new ≡
+        row.old ++ Cycles.places_of table.now (variant.now.of.name ∷ [])) }
+{
+    add_place(row, table, variant.of.name.as_slice())
+}
+
 fn add_types(
     row: &mut TypeList,
     table: &DefinitionTable,
@@ -56,7 +67,7 @@ fn add_types(
         row.old ++ Cycles.places_of table.now (map (λ v. v.of.name) variants.now)) }
 {
     for variant in variants {
-        add_place(row, table, variant.of.name.as_slice())?;
+        add_type(row, table, variant)?;
     }
     Ok(())
 }
@@ -169,6 +180,7 @@ fn first_on_cycle<'a>(
     Ok(None)
 }
 
+#[tactic(auto, using(crate::proofs::CycleLaws::cycle_found))]
 fn cycle_in<'a>(
     alloc: Global,
     table: &DefinitionTable<'a>,
@@ -176,7 +188,8 @@ fn cycle_in<'a>(
     ensures { IfOk result (λ found. option_map told found ≡ Cycles.cycles_pass table.now) }
 {
     let graph = reference_graph(alloc, table)?;
-    first_on_cycle(alloc, &graph, table.definitions())
+    let found = first_on_cycle(alloc, &graph, table.definitions())?;
+    Ok(found)
 }
 
 /// The first definition on a cycle of bases and branches (QAPI code generation guide, "Struct

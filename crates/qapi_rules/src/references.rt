@@ -99,6 +99,7 @@ fn bad_base<'a>(table: &DefinitionTable, definition: &'a Definition) -> Option<&
 }
 
 /// The first fault of a definition's references, rule by rule.
+#[tactic(auto, unfolding(crate::specs::References::bad_reference))]
 fn bad_reference<'a>(
     table: &DefinitionTable<'a>,
     definition: &'a Definition,
