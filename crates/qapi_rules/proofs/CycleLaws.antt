@@ -1,5 +1,5 @@
 -- A cycle is found exactly where there is one, and what is let through is on none.
-use Rattle.std.proofs.Common.{◌≡◌, ◌<◌, ◌≤◌, ◌+◌, ◌||◌, ◌⊎◌, ℕ, zero, suc, nat_eq, nat_lt, Bool, true, false, not, cond, List, [], ◌∷◌, ◌++◌, map, length, get_or, position, Option, Some, None, Decides, All, refl, sym, ap, ◌∙◌, subst, inl, inr, arith, length-append, append_assoc, take}
+use Rattle.std.proofs.Common.{◌≡◌, ◌<◌, ◌≤◌, ◌+◌, ◌||◌, ◌⊎◌, ℕ, zero, suc, nat_eq, nat_lt, Bool, true, false, cond, List, [], ◌∷◌, ◌++◌, map, length, get_or, Option, Some, None, Decides, All, refl, sym, ap, ◌∙◌, subst, inl, inr, arith, length-append, append_assoc, take}
 use Rattle.std.specs.{List.list_any, List.IsDistinct, List.AllByRecursion, List.filter_map, List.position_or_len, List.cons_option, Option.option_or, Str.bytes_eq}
 use Rattle.std.proofs.lemmas.List.{get_or_past, length-map, map_more, Elements.filter_map-append, Elements.All-cons, Elements.All-map}
 use Rattle.std.proofs.lemmas.{Bool.cases_lt, Bool.ltb-true, Bool.Decides.Decides-eqb, Map.Keys.IsDistinct-cons, Map.Steps.length-le_from_distinct_below}
@@ -9,7 +9,7 @@ use Rattle.qapi_types.proofs.{ChainLaws.either, ChainLaws.left, ChainLaws.right,
 use Rattle.qapi_rules.specs.declared.fault.CheckFault.{CheckFault}
 use Rattle.qapi_rules.specs.declared.fault.CheckRule.TheVariants.{BaseCycle}
 use Rattle.qapi_rules.specs.{Blames.over, Meanings.names_of, References.judged}
-use Rattle.qapi_rules.specs.Cycles.{leads_in, is_on_cycle, base_cycle, cycle_fault, cycles_pass, places_of, referred, references_of, reference_graph}
+use Rattle.qapi_rules.specs.Cycles.{leads_in, is_on_cycle, cycle_fault, cycles_pass, places_of, referred, references_of, reference_graph}
 
 -- a number of which the test holds
 pub any-some : (p : ℕ → Bool) (xs : List ℕ) → list_any p xs ≡ true → (c : ℕ) × (has c xs ≡ true) × (p c ≡ true)

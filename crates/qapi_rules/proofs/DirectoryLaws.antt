@@ -1,5 +1,5 @@
 -- Names whose first places are noted.
-use Rattle.std.proofs.Common.{◌≡◌, ◌+◌, ◌<◌, ◌≤◌, ℕ, Bool, not, true, false, cond, nat_eq, nat_lt, List, [], ◌∷◌, ◌++◌, map, length, take, get_or, Option, Some, None, option_copied, is_some, position, Result, Ok, Err, OnOk, refl, ap, sym, subst, ◌∙◌, arith, length-append}
+use Rattle.std.proofs.Common.{◌≡◌, ◌+◌, ◌<◌, ◌≤◌, ℕ, Bool, not, true, false, cond, nat_eq, nat_lt, List, [], ◌∷◌, ◌++◌, map, length, take, get_or, Option, Some, None, option_copied, is_some, position, refl, ap, sym, subst, ◌∙◌, arith, length-append}
 use Rattle.std.specs.{Borrow.Bor, List.position_or_len, Map.lookup, Option.option_or, Str.bytes_eq}
 use Rattle.std.proofs.{lemmas.List.map_more, lemmas.List.length-map, lemmas.List.length-take-le, lemmas.List.Folds.position_or_len_push, lemmas.List.Sums.prefix_len-le-length, lemmas.Slice.Eq.bytes_eq-Decides, lemmas.Grind.common_steps, lemmas.Bool.Decides.nat_tests}
 use Rattle.qapi_types.specs.Lookups.{place_of}

@@ -1,10 +1,10 @@
 -- Cycles of bases and branches (QAPI code generation guide, "Struct types", "Union types").
-use Rattle.std.specs.Prelude.{ℕ, zero, suc, nat_eq, Bool, false, ◌||◌, cond, List, [], ◌∷◌, ◌++◌, map, length, Option, Some, None}
+use Rattle.std.specs.Prelude.{ℕ, zero, suc, nat_eq, Bool, false, ◌||◌, cond, List, [], ◌++◌, map, length, Option, Some, None}
 use Rattle.std.specs.{List.filter_map, List.list_any, Option.option_to_list}
 use Rattle.qapi_define.specs.declared.definition.{Definition.Definition, Variant.Variant}
 use Rattle.qapi_define.specs.Saying.{base_of, variants_of}
-use Rattle.qapi_types.specs.{Chains.row_of, Chains.NoneOnCycle, Lookups.place_of}
-use Rattle.qapi_rules.specs.declared.fault.{CheckFault.CheckFault, CheckRule.CheckRule}
+use Rattle.qapi_types.specs.{Chains.row_of, Lookups.place_of}
+use Rattle.qapi_rules.specs.declared.fault.{CheckFault.CheckFault}
 use Rattle.qapi_rules.specs.declared.fault.CheckRule.TheVariants.{BaseCycle}
 use Rattle.qapi_rules.specs.{Blames.over, Meanings.names_of, Meanings.is_union_sort, References.judged}
 

@@ -1,7 +1,7 @@
 -- The rules of references between definitions (QAPI code generation guide, "Schema syntax"), each with the name at fault.
-use Rattle.std.specs.Prelude.{ℕ, zero, suc, Bool, true, false, not, ◌&&◌, ◌||◌, cond, List, [], ◌∷◌, ◌++◌, length, Option, Some, None, is_some, unwrap_or}
-use Rattle.std.specs.{List.flat_map, List.list_any, Option.option_and_then, Option.option_map, Option.option_or, Str.bytes_eq}
-use Rattle.qapi_define.specs.declared.definition.{Definition.Definition, Member.Member, Part.Part, Sort.Sort, Variant.Variant}
+use Rattle.std.specs.Prelude.{ℕ, zero, suc, Bool, false, not, ◌&&◌, ◌||◌, cond, List, [], ◌∷◌, ◌++◌, length, Option, Some, None, is_some, unwrap_or}
+use Rattle.std.specs.{List.flat_map, List.list_any, Option.option_and_then, Option.option_map, Str.bytes_eq}
+use Rattle.qapi_define.specs.declared.definition.{Definition.Definition, Member.Member, Part.Part, Variant.Variant}
 use Rattle.qapi_define.specs.declared.definition.Part.TheVariants as part
 use Rattle.qapi_define.specs.Saying.{first_some, base_of, base_members_of, discriminator_of, members_of, variants_of}
 use Rattle.qapi_types.specs.declared.kind.JsonKind.{JsonKind}
@@ -9,7 +9,7 @@ use Rattle.qapi_types.specs.declared.kind.JsonKind.TheVariants as json
 use Rattle.qapi_rules.specs.declared.fault.{CheckFault.CheckFault, CheckRule.CheckRule}
 use Rattle.qapi_rules.specs.declared.fault.CheckRule.TheVariants.{UnknownType, BadBase, BadDiscriminator, UnknownBranch, BadData, KindClash}
 use Rattle.qapi_rules.specs.{Blames.fault, Blames.first_of, Blames.over, Names.without_star}
-use Rattle.qapi_rules.specs.Meanings.{Entity, definition_of, entity_of, is_type, is_struct, is_union, is_mixed, is_enum, is_union_sort, is_alternate_sort, has_value, kind_of, are_same}
+use Rattle.qapi_rules.specs.Meanings.{Entity, definition_of, entity_of, is_type, is_struct, is_union, is_mixed, is_enum, is_alternate_sort, has_value, kind_of, are_same}
 
 -- the fault of a definition by the rule, where there is a name at fault, which is told without a star
 abbrev pub judged : CheckRule → Definition → Option (List ℕ) → Option CheckFault

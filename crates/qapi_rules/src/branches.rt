@@ -159,10 +159,7 @@ fn enum_of_discriminator<'a>(
 }
 
 /// The first branch that is for no value of the enum.
-pub fn unknown_branch<'a>(
-    table: &DefinitionTable,
-    definition: &'a Definition,
-) -> Option<&'a [u8]>
+pub fn unknown_branch<'a>(table: &DefinitionTable, definition: &'a Definition) -> Option<&'a [u8]>
     ensures { option_copied result ≡ References.unknown_branch table.now definition.now }
 {
     match enum_of_discriminator(table, definition) {

@@ -47,11 +47,7 @@ fn add_base(
     }
 }
 
-fn add_type(
-    row: &mut TypeList,
-    table: &DefinitionTable,
-    variant: &Variant,
-) -> Result<(), NoMemory>
+fn add_type(row: &mut TypeList, table: &DefinitionTable, variant: &Variant) -> Result<(), NoMemory>
     ensures { OnOk result (row.new ≡
         row.old ++ Cycles.places_of table.now (variant.now.of.name ∷ [])) }
 {
@@ -181,10 +177,7 @@ fn first_on_cycle<'a>(
 }
 
 #[tactic(auto, using(crate::proofs::CycleLaws::cycle_found))]
-fn cycle_in<'a>(
-    alloc: Global,
-    table: &DefinitionTable<'a>,
-) -> Result<Option<Blame<'a>>, NoMemory>
+fn cycle_in<'a>(alloc: Global, table: &DefinitionTable<'a>) -> Result<Option<Blame<'a>>, NoMemory>
     ensures { IfOk result (λ found. option_map told found ≡ Cycles.cycles_pass table.now) }
 {
     let graph = reference_graph(alloc, table)?;

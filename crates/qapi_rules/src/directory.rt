@@ -46,10 +46,7 @@ fn note<'a>(
 }
 
 /// The first place of each of the names.
-fn places_of<'a>(
-    alloc: Global,
-    names: &[&'a [u8]],
-) -> Result<IndexMap<&'a [u8], usize>, NoMemory>
+fn places_of<'a>(alloc: Global, names: &[&'a [u8]]) -> Result<IndexMap<&'a [u8], usize>, NoMemory>
     ensures { IfOk result (λ places. ArePlaces (map (λ k. k.now) names.now) places.entries) }
 {
     let mut places = IndexMap::new(alloc);

@@ -7,17 +7,27 @@ use qapi_define::{Definition, Sort};
 use qapi_types::JsonKind;
 
 const STR: &[u8] = b"str";
+
 const BOOL: &[u8] = b"bool";
+
 const NULL: &[u8] = b"null";
+
 const ANY: &[u8] = b"any";
+
 const QTYPE: &[u8] = b"QType";
 
 const NONE: &[u8] = b"none";
+
 const QNULL: &[u8] = b"qnull";
+
 const QNUM: &[u8] = b"qnum";
+
 const QSTRING: &[u8] = b"qstring";
+
 const QDICT: &[u8] = b"qdict";
+
 const QLIST: &[u8] = b"qlist";
+
 const QBOOL: &[u8] = b"qbool";
 
 /// A built-in type, by its values (QAPI code generation guide, "Built-in Types").

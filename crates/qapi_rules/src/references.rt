@@ -100,10 +100,7 @@ fn bad_base<'a>(table: &DefinitionTable, definition: &'a Definition) -> Option<&
 
 /// The first fault of a definition's references, rule by rule.
 #[tactic(auto, unfolding(crate::specs::References::bad_reference))]
-fn bad_reference<'a>(
-    table: &DefinitionTable<'a>,
-    definition: &'a Definition,
-) -> Option<Blame<'a>>
+fn bad_reference<'a>(table: &DefinitionTable<'a>, definition: &'a Definition) -> Option<Blame<'a>>
     ensures { option_map told result ≡ References.bad_reference table.now definition.now }
 {
     if let Some(name) = unknown_type(table, definition) {
@@ -127,10 +124,7 @@ fn bad_reference<'a>(
     None
 }
 
-fn first_bad<'a>(
-    table: &DefinitionTable<'a>,
-    definitions: &'a [Definition],
-) -> Option<Blame<'a>>
+fn first_bad<'a>(table: &DefinitionTable<'a>, definitions: &'a [Definition]) -> Option<Blame<'a>>
     ensures { option_map told result ≡
         first_some (References.bad_reference table.now) definitions.now }
 {

@@ -45,10 +45,7 @@ fn names<'a>(
 
 impl<'a> DefinitionTable<'a> {
     /// The table of definitions, whose names may repeat.
-    pub fn of(
-        alloc: Global,
-        definitions: &'a [Definition],
-    ) -> Result<DefinitionTable<'a>, NoMemory>
+    pub fn of(alloc: Global, definitions: &'a [Definition]) -> Result<DefinitionTable<'a>, NoMemory>
         ensures { IfOk result (λ table. table ≡ definitions.now) }
     {
         let names = names(alloc, definitions)?;

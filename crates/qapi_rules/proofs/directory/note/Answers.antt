@@ -1,4 +1,4 @@
-use Rattle.std.proofs.Common.{◌≡◌, ◌∙◌, Bool, false, is_some, rules}
+use Rattle.std.proofs.Common.{◌≡◌, ◌∙◌, false, is_some, rules}
 use Rattle.indexmap.proofs.CallerLemmas.{insert_entry-new}
 use Rattle.qapi_rules.proofs.DirectoryLaws.{noted, none_from}
 use Rattle.qapi_rules.proofs.directory.note.Goals as goal
