@@ -1,9 +1,9 @@
 -- Names that are gathered one after the other, and rules over what stands before.
-use Rattle.std.proofs.Common.{◌≡◌, ◌<◌, ◌≤◌, ◌+◌, ◌||◌, ℕ, Bool, true, false, not, cond, List, [], ◌∷◌, ◌++◌, map, take, drop, get_or, length, suc, Option, Some, None, refl, sym, ap, ◌∙◌, subst, arith, add-one, bytes_eq}
+use Rattle.std.proofs.Common.{◌≡◌, ◌<◌, ◌+◌, ◌||◌, ℕ, Bool, true, false, not, cond, List, [], ◌∷◌, ◌++◌, map, take, drop, get_or, length, suc, Option, Some, None, refl, sym, ap, ◌∙◌, subst, add-one, bytes_eq}
 use Rattle.std.specs.Option.{option_or}
-use Rattle.std.proofs.{Math.Seq.drop-cons, Math.Seq.take-suc, lemmas.List.drop_all, lemmas.List.map-append, lemmas.List.map-id, lemmas.List.Folds.list_any-append}
+use Rattle.std.proofs.{Math.Seq.drop-cons, Math.Seq.take-suc, lemmas.List.map-append, lemmas.List.map-id, lemmas.List.Folds.list_any-append}
 use Rattle.qapi_types.specs.{Choices.stands, Sets.AddsName, Sets.HasNames}
-use Rattle.qapi_rules.specs.{Blames.over, Gathering.Gathers, Gathering.Judges, Gathering.taken}
+use Rattle.qapi_rules.specs.{Blames.over, Gathering.Gathers, Gathering.Judges, Clashes.taken}
 
 or-false : (b : Bool) → (b || false) ≡ b
 or-false true = refl
@@ -46,18 +46,9 @@ module _ {A B : Type 0} (name_of : A → List ℕ) (rule : List A → A → Opti
   before : (all : List A) (i : ℕ) (x : A) → x ≡ get_or all i x → i < length all → take i all ++ x ∷ [] ≡ take (suc i) all
   before all i x e l = ap (λ y. take i all ++ y ∷ []) e ∙ sym (take-suc all i x l)
 
-  -- what is told of a thing is the answer
-  pub found : (all : List A) (i : ℕ) (set new : List (List ℕ)) (x : A) (answer : Option B) (b : B) → Walks name_of rule all i set → Judges name_of rule set x answer new → x ≡ get_or all i x → i < length all → answer ≡ Some b → Some b ≡ over rule [] all
-  found all i set new x answer b w j e l s =
-      sym (w.rest ∙ step all i x e l ∙ ap (λ o. option_or o (over rule (take i all ++ x ∷ []) (drop (suc i) all))) (sym (j.told (take i all) w.names) ∙ s))
-
   -- nothing is told of a thing
   pub goes_on : (all : List A) (i : ℕ) (set new : List (List ℕ)) (x : A) (answer : Option B) → Walks name_of rule all i set → Judges name_of rule set x answer new → x ≡ get_or all i x → i < length all → answer ≡ None → Walks name_of rule all (i + 1) new
   goes_on all i set new x answer w j e l s = rw add-one (record {
     rest = w.rest ∙ step all i x e l ∙ ap (λ o. option_or o (over rule (take i all ++ x ∷ []) (drop (suc i) all))) (sym (j.told (take i all) w.names) ∙ s) ∙ ap (λ ys. over rule ys (drop (suc i) all)) (before all i x e l);
     names = subst (λ ys. HasNames new (map name_of ys)) (before all i x e l) (j.added (take i all) w.names);
   })
-
-  -- nothing is told of any
-  pub none_left : (all : List A) (i : ℕ) (set : List (List ℕ)) → Walks name_of rule all i set → length all ≤ i → None ≡ over rule [] all
-  none_left all i set w l = sym (w.rest ∙ ap (over rule (take i all)) (drop_all i all l))

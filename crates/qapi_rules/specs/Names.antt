@@ -39,7 +39,8 @@ is_split_at digit_first text (Some end) = is_domain (take end text) && is_plain 
 -- the text is a name but for its length: plain, or a plain name after __, a domain and _
 unfoldable pub is_formed : Bool → List ℕ → Bool
 is_formed digit_first text =
-    cond (starts_with nat_eq text (codes "__")) (is_split_at digit_first (drop 2 text) (domain_end (drop 2 text))) (is_plain digit_first text)
+    cond (starts_with nat_eq text (codes "__"))
+    (is_split_at digit_first (drop 2 text) (domain_end (drop 2 text))) (is_plain digit_first text)
 
 -- the text is a name, of at most 256 bytes, which does not begin with q_
 unfoldable pub is_name : Bool → List ℕ → Bool

@@ -18,7 +18,9 @@ fn is_spelled(built_in: &str, name: &[u8]) -> bool
 fn place_among(names: &[&str], name: &[u8]) -> Option<usize>
     ensures { result ≡ position (λ b. bytes_eq b.now name.now) names.now }
 {
-    names.iter().position(|&built_in| is_spelled(built_in, name))
+    names
+        .iter()
+        .position(|&built_in| is_spelled(built_in, name))
 }
 
 /// The place of the built-in type of the name in `BUILT_INS`; None where the name is no built-in

@@ -1,11 +1,13 @@
 ghost use Rattle.std.specs.Prelude.{◌≡◌, ℕ, List, [], IfOk, cond};
-ghost use Rattle.qapi_define.specs.declared.definition.{EnumValue.EnumValue as EnumValueOf, Member.Member as MemberOf, Variant.Variant as VariantOf};
+ghost use Rattle.qapi_define.specs.declared.definition.EnumValue.{EnumValue as EnumValueOf};
+ghost use Rattle.qapi_define.specs.declared.definition.Member.{Member as MemberOf};
+ghost use Rattle.qapi_define.specs.declared.definition.Variant.{Variant as VariantOf};
 ghost use Rattle.std.specs.Option.{option_copied};
 ghost use Rattle.qapi_define.specs.Saying.{first_some};
-ghost use Rattle.qapi_rules.specs.Naming;
-ghost use Rattle.qapi_rules.specs.{Blames.over, Gathering.Gathers, Gathering.Judges, Gathering.taken};
+ghost use Rattle.qapi_rules.specs.Clashes;
+ghost use Rattle.qapi_rules.specs.{Blames.over, Gathering.Gathers, Gathering.Judges};
 
-use crate::naming::{earlier, in_order};
+use crate::bad_names::{earlier, in_order};
 use qapi_define::{Definition, EnumValue, Member, Part, Variant};
 use qapi_types::NameSet;
 use qm_base::{NoMemory, Text};
@@ -29,14 +31,15 @@ fn clash_of_feature<'a>(
     set: &mut NameSet<'a>,
     feature: &'a Text,
 ) -> Result<Option<&'a [u8]>, NoMemory>
-    ensures { IfOk result (λ name. Judges (λ (n : List ℕ). n) taken set.old feature.now (option_copied name) set.new) }
+    ensures { IfOk result (λ name.
+        Judges (λ (n : List ℕ). n) Clashes.taken set.old feature.now (option_copied name) set.new) }
 {
     let own = gather(set, feature.as_slice())?;
     Ok(own)
 }
 
 fn repeated<'a>(alloc: Global, features: &'a [Text]) -> Result<Option<&'a [u8]>, NoMemory>
-    ensures { IfOk result (λ name. option_copied name ≡ Naming.repeated features.now) }
+    ensures { IfOk result (λ name. option_copied name ≡ Clashes.repeated features.now) }
 {
     let mut set = NameSet::new(alloc);
     for feature in features {
@@ -52,7 +55,8 @@ fn clash_of_value<'a>(
     set: &mut NameSet<'a>,
     value: &'a EnumValue,
 ) -> Result<Option<&'a [u8]>, NoMemory>
-    ensures { IfOk result (λ name. Judges (λ (v : EnumValueOf). v.name) Naming.clash_of_value set.old value.now (option_copied name) set.new) }
+    ensures { IfOk result (λ name.
+        Judges (λ (v : EnumValueOf). v.name) Clashes.clash_of_value set.old value.now (option_copied name) set.new) }
 {
     let own = gather(set, value.name.as_slice())?;
     let inside = repeated(alloc, value.features.as_slice())?;
@@ -64,7 +68,8 @@ fn clash_of_member<'a>(
     set: &mut NameSet<'a>,
     member: &'a Member,
 ) -> Result<Option<&'a [u8]>, NoMemory>
-    ensures { IfOk result (λ name. Judges (λ (m : MemberOf). m.name) Naming.clash_of_member set.old member.now (option_copied name) set.new) }
+    ensures { IfOk result (λ name.
+        Judges (λ (m : MemberOf). m.name) Clashes.clash_of_member set.old member.now (option_copied name) set.new) }
 {
     let own = gather(set, member.name.as_slice())?;
     let inside = repeated(alloc, member.features.as_slice())?;
@@ -75,7 +80,8 @@ fn clash_of_variant<'a>(
     set: &mut NameSet<'a>,
     variant: &'a Variant,
 ) -> Result<Option<&'a [u8]>, NoMemory>
-    ensures { IfOk result (λ name. Judges (λ (v : VariantOf). v.name) Naming.clash_of_variant set.old variant.now (option_copied name) set.new) }
+    ensures { IfOk result (λ name.
+        Judges (λ (v : VariantOf). v.name) Clashes.clash_of_variant set.old variant.now (option_copied name) set.new) }
 {
     let own = gather(set, variant.name.as_slice())?;
     Ok(own)
@@ -85,7 +91,7 @@ fn clash_among_values<'a>(
     alloc: Global,
     values: &'a [EnumValue],
 ) -> Result<Option<&'a [u8]>, NoMemory>
-    ensures { IfOk result (λ name. option_copied name ≡ over Naming.clash_of_value [] values.now) }
+    ensures { IfOk result (λ name. option_copied name ≡ over Clashes.clash_of_value [] values.now) }
 {
     let mut set = NameSet::new(alloc);
     for value in values {
@@ -100,7 +106,7 @@ fn clash_among_members<'a>(
     alloc: Global,
     members: &'a [Member],
 ) -> Result<Option<&'a [u8]>, NoMemory>
-    ensures { IfOk result (λ name. option_copied name ≡ over Naming.clash_of_member [] members.now) }
+    ensures { IfOk result (λ name. option_copied name ≡ over Clashes.clash_of_member [] members.now) }
 {
     let mut set = NameSet::new(alloc);
     for member in members {
@@ -115,7 +121,7 @@ fn clash_among_variants<'a>(
     alloc: Global,
     variants: &'a [Variant],
 ) -> Result<Option<&'a [u8]>, NoMemory>
-    ensures { IfOk result (λ name. option_copied name ≡ over Naming.clash_of_variant [] variants.now) }
+    ensures { IfOk result (λ name. option_copied name ≡ over Clashes.clash_of_variant [] variants.now) }
 {
     let mut set = NameSet::new(alloc);
     for variant in variants {
@@ -127,7 +133,7 @@ fn clash_among_variants<'a>(
 }
 
 fn clash_in<'a>(alloc: Global, part: &'a Part) -> Result<Option<&'a [u8]>, NoMemory>
-    ensures { IfOk result (λ name. option_copied name ≡ Naming.clash_in part.now) }
+    ensures { IfOk result (λ name. option_copied name ≡ Clashes.clash_in part.now) }
 {
     match part {
         Part::Values(values) => clash_among_values(alloc, values.as_slice()),
@@ -140,7 +146,7 @@ fn clash_in<'a>(alloc: Global, part: &'a Part) -> Result<Option<&'a [u8]>, NoMem
 }
 
 fn clash_inside<'a>(alloc: Global, parts: &'a [Part]) -> Result<Option<&'a [u8]>, NoMemory>
-    ensures { IfOk result (λ name. option_copied name ≡ first_some Naming.clash_in parts.now) }
+    ensures { IfOk result (λ name. option_copied name ≡ first_some Clashes.clash_in parts.now) }
 {
     for part in parts {
         if let Some(name) = clash_in(alloc, part)? {
@@ -151,14 +157,11 @@ fn clash_inside<'a>(alloc: Global, parts: &'a [Part]) -> Result<Option<&'a [u8]>
 }
 
 /// The first name that stands a second time in a list of members, values, branches, alternatives or
-/// features, in the order of the text (QAPI code generation guide, "Naming rules and reserved
+/// features, in the order of the text (QAPI code generation guide, "Clashes rules and reserved
 /// names").
-#[tactic(auto, unfolding(crate::specs::Naming::clash))]
-pub fn clash<'a>(
-    alloc: Global,
-    definition: &'a Definition,
-) -> Result<Option<&'a [u8]>, NoMemory>
-    ensures { IfOk result (λ name. option_copied name ≡ Naming.clash definition.now) }
+#[tactic(auto, unfolding(crate::specs::Clashes::clash))]
+pub fn clash<'a>(alloc: Global, definition: &'a Definition) -> Result<Option<&'a [u8]>, NoMemory>
+    ensures { IfOk result (λ name. option_copied name ≡ Clashes.clash definition.now) }
 {
     clash_inside(alloc, definition.parts.as_slice())
 }

@@ -2,6 +2,7 @@
 //! syntax", "Naming rules and reserved names").
 #![tactic(auto)]
 
+mod bad_names;
 mod branches;
 pub mod built_ins;
 mod clashes;
@@ -11,7 +12,6 @@ pub mod fault;
 pub mod meaning;
 pub mod names;
 pub mod names_rules;
-mod naming;
 pub mod references;
 pub mod table;
 mod variants;

@@ -1,6 +1,6 @@
 use Rattle.std.proofs.Common.{arith, rules}
 use Rattle.qapi_define.specs.declared.definition.Member.{Member}
-use Rattle.qapi_rules.specs.Naming.{clash_of_member}
+use Rattle.qapi_rules.specs.Clashes.{clash_of_member}
 use Rattle.qapi_rules.proofs.Gathered.{goes_on}
 use Rattle.qapi_rules.proofs.clashes.clash_among_members.Goals as goal
 

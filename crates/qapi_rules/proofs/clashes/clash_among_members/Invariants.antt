@@ -1,5 +1,5 @@
 use Rattle.qapi_define.specs.declared.definition.Member.{Member}
-use Rattle.qapi_rules.specs.Naming.{clash_of_member}
+use Rattle.qapi_rules.specs.Clashes.{clash_of_member}
 use Rattle.qapi_rules.proofs.Gathered.{Walks}
 use Rattle.qapi_rules.proofs.clashes.clash_among_members.Given as goal
 

@@ -1,6 +1,6 @@
 use Rattle.std.proofs.Common.{arith, rules}
 use Rattle.qapi_define.specs.declared.definition.EnumValue.{EnumValue}
-use Rattle.qapi_rules.specs.Naming.{clash_of_value}
+use Rattle.qapi_rules.specs.Clashes.{clash_of_value}
 use Rattle.qapi_rules.proofs.Gathered.{goes_on}
 use Rattle.qapi_rules.proofs.clashes.clash_among_values.Goals as goal
 

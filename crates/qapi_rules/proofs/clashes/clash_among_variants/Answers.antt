@@ -1,6 +1,6 @@
 use Rattle.std.proofs.Common.{arith, rules}
 use Rattle.qapi_define.specs.declared.definition.Variant.{Variant}
-use Rattle.qapi_rules.specs.Naming.{clash_of_variant}
+use Rattle.qapi_rules.specs.Clashes.{clash_of_variant}
 use Rattle.qapi_rules.proofs.Gathered.{goes_on}
 use Rattle.qapi_rules.proofs.clashes.clash_among_variants.Goals as goal
 

@@ -1,6 +1,6 @@
 use Rattle.std.proofs.Common.{◌≡◌, drop}
 use Rattle.qapi_define.specs.Saying.{first_some}
-use Rattle.qapi_rules.specs.Naming.{clash_in}
+use Rattle.qapi_rules.specs.Clashes.{clash_in}
 use Rattle.qapi_rules.proofs.clashes.clash_inside.Given as goal
 
 abbrev pub invariant-loop-part : goal.invariant-loop-part

@@ -1,5 +1,5 @@
-use Rattle.std.proofs.Common.{ℕ, List, Option, refl}
-use Rattle.qapi_rules.specs.Gathering.{taken}
+use Rattle.std.proofs.Common.{ℕ, List, refl}
+use Rattle.qapi_rules.specs.Clashes.{taken}
 use Rattle.qapi_rules.proofs.Gathered.{judged, taken-id}
 use Rattle.qapi_rules.proofs.clashes.clash_of_feature.Goals as goal
 

@@ -1,7 +1,7 @@
 use Rattle.qapi_define.specs.declared.definition.Member.{Member}
-use Rattle.std.proofs.Common.{refl, rules}
+use Rattle.std.proofs.Common.{refl}
 use Rattle.std.specs.Option.{option_or}
-use Rattle.qapi_rules.specs.Naming.{clash_of_member, repeated}
+use Rattle.qapi_rules.specs.Clashes.{clash_of_member, repeated}
 use Rattle.qapi_rules.proofs.Gathered.{judged}
 use Rattle.qapi_rules.proofs.clashes.clash_of_member.Goals as goal
 

@@ -1,6 +1,6 @@
 use Rattle.qapi_define.specs.declared.definition.EnumValue.{EnumValue}
-use Rattle.std.proofs.Common.{refl, rules}
-use Rattle.qapi_rules.specs.Naming.{clash_of_value, in_order, repeated}
+use Rattle.std.proofs.Common.{refl}
+use Rattle.qapi_rules.specs.{BadNames.in_order, Clashes.clash_of_value, Clashes.repeated}
 use Rattle.qapi_rules.proofs.Gathered.{judged}
 use Rattle.qapi_rules.proofs.clashes.clash_of_value.Goals as goal
 

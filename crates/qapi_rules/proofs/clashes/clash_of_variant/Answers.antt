@@ -1,6 +1,6 @@
 use Rattle.qapi_define.specs.declared.definition.Variant.{Variant}
 use Rattle.std.proofs.Common.{refl}
-use Rattle.qapi_rules.specs.Naming.{clash_of_variant}
+use Rattle.qapi_rules.specs.Clashes.{clash_of_variant}
 use Rattle.qapi_rules.proofs.Gathered.{judged}
 use Rattle.qapi_rules.proofs.clashes.clash_of_variant.Goals as goal
 

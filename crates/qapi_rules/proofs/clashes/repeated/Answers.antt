@@ -1,5 +1,5 @@
 use Rattle.std.proofs.Common.{ℕ, List, arith, rules}
-use Rattle.qapi_rules.specs.Gathering.{taken}
+use Rattle.qapi_rules.specs.Clashes.{taken}
 use Rattle.qapi_rules.proofs.Gathered.{goes_on}
 use Rattle.qapi_rules.proofs.clashes.repeated.Goals as goal
 

@@ -1,5 +1,5 @@
 use Rattle.std.proofs.Common.{ℕ, List}
-use Rattle.qapi_rules.specs.Gathering.{taken}
+use Rattle.qapi_rules.specs.Clashes.{taken}
 use Rattle.qapi_rules.proofs.Gathered.{Walks}
 use Rattle.qapi_rules.proofs.clashes.repeated.Given as goal
 

@@ -1,6 +1,6 @@
-use Rattle.std.proofs.Common.{cond, Some, refl, List, ℕ}
+use Rattle.std.proofs.Common.{cond, Some, refl}
 use Rattle.qapi_define.specs.declared.definition.Definition.{Definition}
-use Rattle.qapi_rules.specs.{BuiltIns.is_built_in, Naming.clash, Naming.faults_of, Naming.names_rules}
+use Rattle.qapi_rules.specs.{BuiltIns.is_built_in, Clashes.clash, NamesRules.faults_of, NamesRules.names_rules}
 use Rattle.qapi_rules.proofs.Gathered.{judged}
 use Rattle.qapi_rules.proofs.names_rules.judge.Goals as goal
 

@@ -1,6 +1,6 @@
 use Rattle.std.proofs.Common.{arith, rules}
 use Rattle.qapi_define.specs.declared.definition.Definition.{Definition}
-use Rattle.qapi_rules.specs.Naming.{names_rules}
+use Rattle.qapi_rules.specs.NamesRules.{names_rules}
 use Rattle.qapi_rules.proofs.Gathered.{goes_on}
 use Rattle.qapi_rules.proofs.names_rules.names_pass.Goals as goal
 

@@ -1,5 +1,5 @@
 use Rattle.qapi_define.specs.declared.definition.Definition.{Definition}
-use Rattle.qapi_rules.specs.Naming.{names_rules}
+use Rattle.qapi_rules.specs.NamesRules.{names_rules}
 use Rattle.qapi_rules.proofs.Gathered.{Walks}
 use Rattle.qapi_rules.proofs.names_rules.names_pass.Given as goal
 

@@ -1,7 +1,7 @@
 ghost use Rattle.std.specs.Prelude.{◌≡◌};
 ghost use Rattle.std.specs.Option.{option_copied, option_or};
 ghost use Rattle.qapi_define.specs.Saying.{first_some};
-ghost use Rattle.qapi_rules.specs.Naming;
+ghost use Rattle.qapi_rules.specs.BadNames;
 
 use crate::names::{is_name, without_star};
 use qapi_define::{Definition, EnumValue, Member, Part, Sort, Variant};
@@ -23,7 +23,7 @@ pub fn in_order<'a>(
     own: Option<&'a [u8]>,
     inside: Option<&'a [u8]>,
 ) -> Option<&'a [u8]>
-    ensures { option_copied result ≡ Naming.in_order features_first (option_copied own.entry) (option_copied inside.entry) }
+    ensures { option_copied result ≡ BadNames.in_order features_first (option_copied own.entry) (option_copied inside.entry) }
 {
     if features_first {
         earlier(inside, own)
@@ -33,7 +33,7 @@ pub fn in_order<'a>(
 }
 
 fn bad(name: &[u8], digit_first: bool) -> Option<&[u8]>
-    ensures { option_copied result ≡ Naming.bad digit_first name.now }
+    ensures { option_copied result ≡ BadNames.bad digit_first name.now }
 {
     if is_name(name, digit_first) {
         None
@@ -43,7 +43,7 @@ fn bad(name: &[u8], digit_first: bool) -> Option<&[u8]>
 }
 
 fn bad_member_name(name: &[u8]) -> Option<&[u8]>
-    ensures { option_copied result ≡ Naming.bad_member_name name.now }
+    ensures { option_copied result ≡ BadNames.bad_member_name name.now }
 {
     if is_name(name, false) {
         None
@@ -53,7 +53,7 @@ fn bad_member_name(name: &[u8]) -> Option<&[u8]>
 }
 
 fn bad_feature(features: &[Text]) -> Option<&[u8]>
-    ensures { option_copied result ≡ Naming.bad_feature features.now }
+    ensures { option_copied result ≡ BadNames.bad_feature features.now }
 {
     for feature in features {
         if let Some(name) = bad(feature.as_slice(), false) {
@@ -64,7 +64,7 @@ fn bad_feature(features: &[Text]) -> Option<&[u8]>
 }
 
 fn bad_value(value: &EnumValue) -> Option<&[u8]>
-    ensures { option_copied result ≡ Naming.bad_value value.now }
+    ensures { option_copied result ≡ BadNames.bad_value value.now }
 {
     let own = bad(value.name.as_slice(), true);
     let inside = bad_feature(value.features.as_slice());
@@ -72,7 +72,7 @@ fn bad_value(value: &EnumValue) -> Option<&[u8]>
 }
 
 fn bad_member(member: &Member) -> Option<&[u8]>
-    ensures { option_copied result ≡ Naming.bad_member member.now }
+    ensures { option_copied result ≡ BadNames.bad_member member.now }
 {
     let own = bad_member_name(member.name.as_slice());
     let inside = bad_feature(member.features.as_slice());
@@ -80,19 +80,19 @@ fn bad_member(member: &Member) -> Option<&[u8]>
 }
 
 fn is_union(sort: Sort) -> bool
-    ensures { result ≡ Naming.is_union sort }
+    ensures { result ≡ BadNames.is_union sort }
 {
     matches!(sort, Sort::Union)
 }
 
 fn bad_variant(sort: Sort, variant: &Variant) -> Option<&[u8]>
-    ensures { option_copied result ≡ Naming.bad_variant sort variant.now }
+    ensures { option_copied result ≡ BadNames.bad_variant sort variant.now }
 {
     bad(variant.name.as_slice(), is_union(sort))
 }
 
 fn bad_among_values(values: &[EnumValue]) -> Option<&[u8]>
-    ensures { option_copied result ≡ first_some Naming.bad_value values.now }
+    ensures { option_copied result ≡ first_some BadNames.bad_value values.now }
 {
     for value in values {
         if let Some(name) = bad_value(value) {
@@ -103,7 +103,7 @@ fn bad_among_values(values: &[EnumValue]) -> Option<&[u8]>
 }
 
 fn bad_among_members(members: &[Member]) -> Option<&[u8]>
-    ensures { option_copied result ≡ first_some Naming.bad_member members.now }
+    ensures { option_copied result ≡ first_some BadNames.bad_member members.now }
 {
     for member in members {
         if let Some(name) = bad_member(member) {
@@ -114,7 +114,7 @@ fn bad_among_members(members: &[Member]) -> Option<&[u8]>
 }
 
 fn bad_among_variants(sort: Sort, variants: &[Variant]) -> Option<&[u8]>
-    ensures { option_copied result ≡ first_some (Naming.bad_variant sort) variants.now }
+    ensures { option_copied result ≡ first_some (BadNames.bad_variant sort) variants.now }
 {
     for variant in variants {
         if let Some(name) = bad_variant(sort, variant) {
@@ -125,7 +125,7 @@ fn bad_among_variants(sort: Sort, variants: &[Variant]) -> Option<&[u8]>
 }
 
 fn bad_in(sort: Sort, part: &Part) -> Option<&[u8]>
-    ensures { option_copied result ≡ Naming.bad_in sort part.now }
+    ensures { option_copied result ≡ BadNames.bad_in sort part.now }
 {
     match part {
         Part::Values(values) => bad_among_values(values.as_slice()),
@@ -138,7 +138,7 @@ fn bad_in(sort: Sort, part: &Part) -> Option<&[u8]>
 }
 
 fn bad_inside(sort: Sort, parts: &[Part]) -> Option<&[u8]>
-    ensures { option_copied result ≡ first_some (Naming.bad_in sort) parts.now }
+    ensures { option_copied result ≡ first_some (BadNames.bad_in sort) parts.now }
 {
     for part in parts {
         if let Some(name) = bad_in(sort, part) {
@@ -149,11 +149,11 @@ fn bad_inside(sort: Sort, parts: &[Part]) -> Option<&[u8]>
 }
 
 /// The first name that is not formed as names are, the definition's own and then those inside in the
-/// order of the text, without a star that it begins with (QAPI code generation guide, "Naming rules
+/// order of the text, without a star that it begins with (QAPI code generation guide, "BadNames rules
 /// and reserved names").
-#[tactic(auto, unfolding(crate::specs::Naming::bad_name))]
+#[tactic(auto, unfolding(crate::specs::BadNames::bad_name))]
 pub fn bad_name(definition: &Definition) -> Option<&[u8]>
-    ensures { option_copied result ≡ Naming.bad_name definition.now }
+    ensures { option_copied result ≡ BadNames.bad_name definition.now }
 {
     let own = bad(definition.name.as_slice(), false);
     let inside = bad_inside(definition.sort, definition.parts.as_slice());
