@@ -1,1 +1,4 @@
+pub mod BranchLaws
+pub mod CycleLaws
+pub mod DirectoryLaws
 pub mod Gathered

@@ -2,6 +2,10 @@ pub mod BadNames
 pub mod Blames
 pub mod BuiltIns
 pub mod Clashes
+pub mod Cycles
+pub mod Directories
 pub mod Gathering
+pub mod Meanings
 pub mod Names
 pub mod NamesRules
+pub mod References
