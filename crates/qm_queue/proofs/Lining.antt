@@ -7,7 +7,7 @@ use Rattle.qm_queue.specs.Firsts.{Among, Leads, IsFirst}
 use Rattle.qm_queue.specs.Lines.{IsOrdered, MayFollow, IsParted, IsLive}
 use Rattle.qm_queue.specs.Trees.{IsNumbered, item_at}
 use Rattle.qm_queue.specs.{Turns.precedes, Turns.earlier_of, Turns.waiting_in, Turns.IsOpened, declared.turns.TurnItem.TurnItem}
-use Rattle.qm_queue.proofs.Orders.{precedes-trans, precedes-self, earlier-left, earlier-right, earlier-is}
+use Rattle.qm_queue.proofs.Orders.{precedes-trans, precedes-self, earlier-left, earlier-right, earlier-is, among-left, among-right}
 use Rattle.qm_queue.proofs.Settling.{Items, HasPlace, among-waiting, place-of, at-more, some-inside, numbered-with, numbered-more}
 
 front-leads : (xs : List TurnItem) → IsOrdered xs → (b : TurnItem) → Among b xs → Leads (slice_get xs 0) b
@@ -104,15 +104,6 @@ parted-set items tree line line' place x within parted more = record {
   kept k a (inl here) = set-here items place k x a within here.0 here.1
   kept k a (inr there) = get_or-set_other items place k x None there.0 ∙ parted.kept k a there.1
 
-among-more : (b : TurnItem) (xs : List TurnItem) (x : TurnItem) → Among b xs → Among b (xs ++ x ∷ [])
-among-more b [] x h = absurd h
-among-more b (y ∷ xs) x (inl e) = inl e
-among-more b (y ∷ xs) x (inr h) = inr (among-more b xs x h)
-
-among-last : (xs : List TurnItem) (x : TurnItem) → Among x (xs ++ x ∷ [])
-among-last [] x = inl refl
-among-last (y ∷ xs) x = inr (among-last xs x)
-
 -- a place without an item is given one, which stands in the line
 pub parted-line : (items tree : Items) (line : List TurnItem) (place : ℕ) (item : TurnItem) → place < length items → item_at items place ≡ None → IsParted items tree line →
     IsParted (set items place (Some item)) tree (line ++ item ∷ [])
@@ -123,10 +114,10 @@ parted-line items tree line place item within free parted = record {
 } where
   more : (k : ℕ) (a : TurnItem) → (item_at tree k ≡ Some a) ⊎ Among a line → (item_at tree k ≡ Some a) ⊎ Among a (line ++ item ∷ [])
   more k a (inl is) = inl is
-  more k a (inr h) = inr (among-more a line item h)
+  more k a (inr h) = inr (among-left a line (item ∷ []) h)
 
   each : (k : ℕ) (a : TurnItem) → ((k ≡ place) × (Some item ≡ Some a)) ⊎ ((k ≢ place) × (item_at items k ≡ Some a)) → (item_at tree k ≡ Some a) ⊎ Among a (line ++ item ∷ [])
-  each k a (inl here) = inr (let e : item ≡ a = cc (here.1) in subst (λ (y : TurnItem). Among y (line ++ item ∷ [])) e (among-last line item))
+  each k a (inl here) = inr (let e : item ≡ a = cc (here.1) in subst (λ (y : TurnItem). Among y (line ++ item ∷ [])) e (among-right item line (item ∷ []) (inl refl)))
   each k a (inr there) = more k a (parted.each k a there.1)
 
   occupied : (k : ℕ) (a : TurnItem) → item_at items k ≡ Some a → k ≢ place

@@ -120,15 +120,12 @@ first-is xs (Some a) is =
       flip true h = absurd cc
       flip false h = refl
 
-pub first-nothing : IsFirst [] None
-first-nothing = record { leads = λ b h. h; among = λ a h. absurd cc }
-
-among-left : (b : TurnItem) (xs ys : List TurnItem) → Among b xs → Among b (xs ++ ys)
+pub among-left : (b : TurnItem) (xs ys : List TurnItem) → Among b xs → Among b (xs ++ ys)
 among-left b [] ys h = absurd h
 among-left b (x ∷ xs) ys (inl e) = inl e
 among-left b (x ∷ xs) ys (inr h) = inr (among-left b xs ys h)
 
-among-right : (b : TurnItem) (xs ys : List TurnItem) → Among b ys → Among b (xs ++ ys)
+pub among-right : (b : TurnItem) (xs ys : List TurnItem) → Among b ys → Among b (xs ++ ys)
 among-right b [] ys h = h
 among-right b (x ∷ xs) ys h = inr (among-right b xs ys h)
 
