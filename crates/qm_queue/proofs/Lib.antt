@@ -1,2 +1,3 @@
+pub mod Lining
 pub mod Orders
 pub mod Settling

@@ -2,6 +2,7 @@
 use Rattle.std.proofs.Common.{◌≡◌, ℕ, ◌+◌, ◌==◌, nat_lt, Bool, true, false, not, cond, ◌&&◌, ◌||◌, List, [], ◌∷◌, ◌++◌, find, take, length, get_or, ◌<◌, Option, Some, None, refl, ap, sym, ◌∙◌, subst, arith, ◌⊎◌, inl, inr}
 use Rattle.std.specs.List.{list_any}
 use Rattle.std.proofs.lemmas.{Bool.Decides.nat_tests, List.take_more}
+use Rattle.qm_queue.specs.Firsts.{Among, Leads, IsFirst}
 use Rattle.qm_queue.specs.{Turns.starts_earlier, Turns.precedes, Turns.first_of, Turns.earlier_of, declared.turns.TurnItem.TurnItem}
 
 abbrev start_rank : Option ℕ → ℕ
@@ -58,11 +59,6 @@ precedes-same a b h g =
     let start : a.last_start ≡ b.last_start = same_rank a.last_start b.last_start same.0 in
     λ i. record { session = same.1 i; last_start = start i }
 
--- there is an item, and the other has its turn no earlier
-abbrev pub Leads : Option TurnItem → TurnItem → Type 0
-Leads None b = ⊥
-Leads (Some a) b = precedes b a ≡ false
-
 pub leads-self : (a : TurnItem) → Leads (Some a) a
 leads-self a = precedes-self a
 
@@ -89,16 +85,6 @@ earlier-is (Some b) (Some c) a h = either (precedes c b) h where
   either : (t : Bool) → cond t (Some c) (Some b) ≡ Some a → (Some b ≡ Some a) ⊎ (Some c ≡ Some a)
   either true h = inr h
   either false h = inl h
-
--- the item stands in the list
-abbrev pub Among : TurnItem → List TurnItem → Type 0
-Among b [] = ⊥
-Among b (x ∷ xs) = (x ≡ b) ⊎ Among b xs
-
--- the item is the first of the list, and there is none exactly where the list is empty
-pub record IsFirst (xs : List TurnItem) (first : Option TurnItem) : Type 0 where
-  pub leads : (b : TurnItem) → Among b xs → Leads first b
-  pub among : (a : TurnItem) → first ≡ Some a → Among a xs
 
 any-none : (p : TurnItem → Bool) (xs : List TurnItem) → ((b : TurnItem) → Among b xs → p b ≡ false) → list_any p xs ≡ false
 any-none p [] none = refl
@@ -134,15 +120,12 @@ first-is xs (Some a) is =
       flip true h = absurd cc
       flip false h = refl
 
-pub first-nothing : IsFirst [] None
-first-nothing = record { leads = λ b h. h; among = λ a h. absurd cc }
-
-among-left : (b : TurnItem) (xs ys : List TurnItem) → Among b xs → Among b (xs ++ ys)
+pub among-left : (b : TurnItem) (xs ys : List TurnItem) → Among b xs → Among b (xs ++ ys)
 among-left b [] ys h = absurd h
 among-left b (x ∷ xs) ys (inl e) = inl e
 among-left b (x ∷ xs) ys (inr h) = inr (among-left b xs ys h)
 
-among-right : (b : TurnItem) (xs ys : List TurnItem) → Among b ys → Among b (xs ++ ys)
+pub among-right : (b : TurnItem) (xs ys : List TurnItem) → Among b ys → Among b (xs ++ ys)
 among-right b [] ys h = h
 among-right b (x ∷ xs) ys h = inr (among-right b xs ys h)
 

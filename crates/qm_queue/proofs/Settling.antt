@@ -4,10 +4,11 @@ use Rattle.std.proofs.{Math.ListN.set, Math.ListN.length-set, Math.Seq.take-appe
 use Rattle.std.proofs.lemmas.{List.get_or-set_same, List.get_or-set_other, Bool.Decides.nat_tests}
 use Rattle.std.specs.Option.{option_eq}
 use Rattle.qm_queue.specs.Trees.{IsTree, IsTreeBut, IsNumbered, item_at, best_below}
-use Rattle.qm_queue.specs.{Turns.earlier_of, Turns.waiting_in, Turns.first_of, Turns.IsOpened, declared.turns.TurnItem.TurnItem}
-use Rattle.qm_queue.proofs.Orders.{Leads, leads-self, earlier-left, earlier-right, earlier-is, Among, IsFirst, first-is}
+use Rattle.qm_queue.specs.{Turns.earlier_of, Turns.waiting_in, declared.turns.TurnItem.TurnItem}
+use Rattle.qm_queue.specs.Firsts.{Among, Leads, IsFirst}
+use Rattle.qm_queue.proofs.Orders.{leads-self, earlier-left, earlier-right, earlier-is}
 
-abbrev Items : Type 0
+abbrev pub Items : Type 0
 Items = List (Option TurnItem)
 
 -- what a place tells does not change with a place that is not below it
@@ -85,7 +86,7 @@ with-item owns bests place item tree = record {
       ∙ ap (λ (x : Option TurnItem). earlier_of x (earlier_of (item_at bests (2 * k + 1)) (item_at bests (2 * k + 2)))) (sym (get_or-set_other owns place k item None ne));
 }
 
-at-more : (xs : Items) (k : ℕ) → item_at (xs ++ None ∷ []) k ≡ item_at xs k
+pub at-more : (xs : Items) (k : ℕ) → item_at (xs ++ None ∷ []) k ≡ item_at xs k
 at-more [] zero = refl
 at-more [] (suc k) = refl
 at-more (x ∷ xs) zero = refl
@@ -103,7 +104,7 @@ tree-more owns bests tree = record {
 pub numbered-more : (owns : Items) → IsNumbered owns → IsNumbered (owns ++ None ∷ [])
 numbered-more owns is = record { each = λ k a h. is.each k a (sym (at-more owns k) ∙ h) }
 
-some-inside : (xs : Items) (k : ℕ) (a : TurnItem) → item_at xs k ≡ Some a → k < length xs
+pub some-inside : (xs : Items) (k : ℕ) (a : TurnItem) → item_at xs k ≡ Some a → k < length xs
 some-inside [] k a h = absurd cc
 some-inside (x ∷ xs) zero a h = omega arith
 some-inside (x ∷ xs) (suc k) a h = omega (arith, some-inside xs k a h)
@@ -123,9 +124,9 @@ climb owns bests tree (suc n) (suc j) b low h =
           (let is : suc j ≡ 2 * (j / 2) + 2 = omega (arith, ne) in subst (λ (i : ℕ). Leads (item_at bests i) b) is h))
 
 -- a place with this item
-record HasPlace (owns : Items) (a : TurnItem) : Type 0 where
-  place : ℕ
-  is : item_at owns place ≡ Some a
+pub record HasPlace (owns : Items) (a : TurnItem) : Type 0 where
+  pub place : ℕ
+  pub is : item_at owns place ≡ Some a
 
 -- what a place tells is an item of its own or of a place below it
 descend : (owns bests : Items) → IsTree owns bests → (n k : ℕ) (a : TurnItem) → length bests ≤ k + n → item_at bests k ≡ Some a → HasPlace owns a
@@ -142,14 +143,14 @@ descend owns bests tree (suc n) k a high h =
       own (inl e) left right = record { place = k; is = e }
       own (inr e) left right = two (earlier-is (item_at bests (2 * k + 1)) (item_at bests (2 * k + 2)) a e) left right
 
-among-waiting : (owns : Items) (k : ℕ) (a : TurnItem) → item_at owns k ≡ Some a → Among a (waiting_in owns)
+pub among-waiting : (owns : Items) (k : ℕ) (a : TurnItem) → item_at owns k ≡ Some a → Among a (waiting_in owns)
 among-waiting [] k a h = absurd cc
 among-waiting (None ∷ owns) zero a h = absurd cc
 among-waiting (Some x ∷ owns) zero a h = inl (let e : x ≡ a = cc in e)
 among-waiting (None ∷ owns) (suc k) a h = among-waiting owns k a h
 among-waiting (Some x ∷ owns) (suc k) a h = inr (among-waiting owns k a h)
 
-place-of : (owns : Items) (a : TurnItem) → Among a (waiting_in owns) → HasPlace owns a
+pub place-of : (owns : Items) (a : TurnItem) → Among a (waiting_in owns) → HasPlace owns a
 place-of [] a h = absurd h
 place-of (None ∷ owns) a h = (let p = place-of owns a h in record { place = suc p.place; is = p.is })
 place-of (Some x ∷ owns) a h = either h (place-of owns a) where
@@ -174,16 +175,6 @@ root-first owns bests tree = record {
 
 pub whole : (n : ℕ) (xs ys : Items) → n ≡ length xs → take n (xs ++ ys) ≡ xs
 whole n xs ys e = rw e (take-append_seam xs ys)
-
-pub root-is : (owns bests : Items) → IsTree owns bests → item_at bests 0 ≡ first_of (waiting_in owns)
-root-is owns bests tree = sym (first-is (waiting_in owns) (item_at bests 0) (root-first owns bests tree))
-
-pub root-opened : (owns bests : Items) → IsTree owns bests → IsNumbered owns → (o : Option TurnItem) → o ≡ item_at bests 0 → IfSome o (λ a. IsOpened a.session owns)
-root-opened owns bests tree is None e = tt
-root-opened owns bests tree is (Some a) e = opened (descend owns bests tree (length bests) 0 a (omega arith) (sym e)) where
-  opened : HasPlace owns a → IsOpened a.session owns
-  opened p = (let at : a.session ≡ p.place + 1 = is.each p.place a p.is in
-      record { counted = omega (arith, at); opened = omega (arith, at, some-inside owns p.place a p.is) })
 
 -- another item at a place, of the session of that place
 pub numbered-with : (owns : Items) (place : ℕ) (item : Option TurnItem) → place < length owns → IfSome item (λ a. a.session ≡ place + 1) → IsNumbered owns → IsNumbered (set owns place item)

@@ -2,7 +2,9 @@
 #![tactic(auto)]
 
 pub mod laws;
+mod line;
 pub mod ring;
+mod tree;
 pub mod turn_queue;
 pub mod turns;
 

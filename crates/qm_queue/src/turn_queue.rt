@@ -1,7 +1,12 @@
-ghost use Rattle.std.specs.Prelude.{◌≡◌, ◌<◌, ◌≤◌, ◌-◌, ◌*◌, ◌+◌, ◌∷◌, ◌++◌, [], Some, None, length, slice_set as set, OnOk, OnErr, IfSome};
-ghost use Rattle.qm_queue.specs.Trees.{IsTree, IsTreeBut, item_at, best_below};
+ghost use Rattle.std.specs.Prelude.{◌≡◌, ◌≢◌, ℕ, ◌<◌, ◌-◌, ◌+◌, ◌∷◌, ◌++◌, [], true, false, Some, None, drop, length, slice_set as set, OnOk, OnErr, IfSome};
+ghost use Rattle.qm_queue.specs.Firsts.{Among};
+ghost use Rattle.qm_queue.specs.Lines.{IsLive};
+ghost use Rattle.qm_queue.specs.Trees.{item_at, IsNumbered};
 ghost use Rattle.qm_queue.specs.Turns.{first_of, turn_of, waiting_in, without, IsOpened};
+ghost use Rattle.qm_queue.specs.declared.turns.TurnItem.{TurnItem};
 
+use crate::line::Line;
+use crate::tree::Tree;
 use crate::turns::{TurnItem, earlier};
 use qm_base::NoMemory;
 use std::alloc::Global;
@@ -12,63 +17,65 @@ use std::marker::Model;
 #[derive(Drop)]
 pub struct TurnQueue {
     /// The item of each session.
-    owns: Vec<Option<TurnItem>>,
-    /// The best of each session's item and of what stands below it in the tree.
-    bests: Vec<Option<TurnItem>>,
+    items: Vec<Option<TurnItem>>,
+    /// The items that came in the order of their turns. Some may have been taken from their
+    /// sessions since, but not the first.
+    line: Line,
+    /// The other items, at the places of their sessions.
+    tree: Tree,
 }
 
 impl Model for TurnQueue {
     ghost use Rattle.std.specs.Prelude.{List, Option};
-    ghost use Rattle.qm_queue.specs.Trees.{IsTree, IsNumbered};
+    ghost use Rattle.qm_queue.specs.Lines.{IsParted, IsLive};
+    ghost use Rattle.qm_queue.specs.Trees.{IsNumbered};
     ghost use Rattle.qm_queue.specs.declared.turns.TurnItem.{TurnItem};
 
     ghost Value = { List (Option TurnItem) };
 
-    ghost view = { λ q. q.owns.items };
+    ghost view = { λ q. q.items.items };
 
-    ghost invariant = { λ q. IsTree q.owns.items q.bests.items × IsNumbered q.owns.items };
+    ghost invariant = { λ q. IsNumbered q.items.items × IsParted q.items.items q.tree q.line × IsLive q.items.items q.line };
 }
 
-/// The best of a place's own item and of the two below it.
-fn best(owns: &[Option<TurnItem>], bests: &[Option<TurnItem>], place: usize) -> Option<TurnItem>
-    requires within { place < length owns.now }
-    requires same { length bests.now ≡ length owns.now }
-    ensures { result ≡ best_below owns.now bests.now place }
+/// Whether the item is that of its session.
+fn waits(items: &[Option<TurnItem>], item: &TurnItem) -> bool
+    requires { IsNumbered items.now }
+    ensures some { result ≡ true → item_at items.now (item.now.session - 1) ≡ Some item.now }
+    ensures none { result ≡ false → (k : ℕ) → item_at items.now k ≢ Some item.now }
 {
-    let own = &owns[place];
-    if place >= owns.len() / 2 {
-        return *own;
+    if item.session == 0 {
+        return false;
     }
-    let left = &bests[2 * place + 1];
-    match bests.get(2 * place + 2) {
-        Some(right) => *earlier(own, earlier(left, right)),
-        None => *earlier(own, left),
-    }
-}
-
-/// What the first place tells, and none without one.
-fn root(bests: &[Option<TurnItem>]) -> Option<TurnItem>
-    ensures { result ≡ item_at bests.now 0 }
-{
-    match bests.first() {
-        Some(item) => *item,
-        None => None,
+    match items.get(item.session as usize - 1) {
+        Some(own) => *own == Some(*item),
+        None => false,
     }
 }
 
-/// Tells the best of a place, and of all places above it that this changes.
-fn settle(owns: &[Option<TurnItem>], bests: &mut [Option<TurnItem>], place: usize)
-    requires within { place < length owns.now }
-    requires tree { IsTreeBut place owns.now bests.old }
-    ensures { IsTree owns.now bests.new }
+/// Whether the first of the line was taken from its session.
+#[tactic(auto, using(crate::proofs::Lining::stale_rest))]
+fn is_stale(items: &[Option<TurnItem>], line: &Line) -> bool
+    requires { IsNumbered items.now }
+    ensures live { result ≡ false → IsLive items.now line.now }
+    ensures some { result ≡ true → 0 < length line.now }
+    ensures stale { result ≡ true → (k : ℕ) (a : TurnItem) → item_at items.now k ≡ Some a →
+        Among a line.now → Among a (drop 1 line.now) }
 {
-    let best = best(owns, bests, place);
-    if bests[place] == best {
-        return;
+    match line.first() {
+        Some(item) => !waits(items, &item),
+        None => false,
     }
-    bests[place] = best;
-    if place > 0 {
-        settle(owns, bests, (place - 1) / 2);
+}
+
+/// Lets go of what was taken from its session, up to the first in the line that waits.
+fn trim(items: &[Option<TurnItem>], line: &mut Line)
+    requires { IsNumbered items.now }
+    ensures live { IsLive items.now line.new }
+    ensures kept { (k : ℕ) (a : TurnItem) → item_at items.now k ≡ Some a → Among a line.old → Among a line.new }
+{
+    while is_stale(items, line) {
+        line.drop_first();
     }
 }
 
@@ -78,8 +85,9 @@ impl TurnQueue {
         ensures { result ≡ [] }
     {
         TurnQueue {
-            owns: Vec::new(alloc),
-            bests: Vec::new(alloc),
+            items: Vec::new(alloc),
+            line: Line::new(alloc),
+            tree: Tree::new(alloc),
         }
     }
 
@@ -88,11 +96,12 @@ impl TurnQueue {
         ensures ok { OnOk result (self.new ≡ self.old ++ None ∷ []) }
         ensures err { OnErr result (self.new ≡ self.old) }
     {
-        if self.bests.push(None).is_err() {
+        self.line.reserve(self.items.len() + 1)?;
+        if self.items.push(None).is_err() {
             return Err(NoMemory);
         }
-        if self.owns.push(None).is_err() {
-            self.bests.pop();
+        if self.tree.open().is_err() {
+            self.items.pop();
             return Err(NoMemory);
         }
         Ok(())
@@ -102,7 +111,7 @@ impl TurnQueue {
     pub fn as_slice(&self) -> &[Option<TurnItem>]
         ensures { result.now ≡ self.now }
     {
-        self.owns.as_slice()
+        self.items.as_slice()
     }
 
     /// The item that no other precedes.
@@ -110,7 +119,7 @@ impl TurnQueue {
         ensures first { result ≡ first_of (waiting_in self.now) }
         ensures opened { IfSome result (λ a. IsOpened a.session self.now) }
     {
-        root(self.bests.as_slice())
+        *earlier(&self.tree.first(), &self.line.first())
     }
 
     /// The session that has the turn, as `next_turn` tells it of those that wait.
@@ -121,13 +130,27 @@ impl TurnQueue {
         self.first().map(|item| item.session)
     }
 
-    fn set(&mut self, place: usize, item: Option<TurnItem>)
-        requires within { place < length self.old }
-        requires numbered { IfSome item (λ a. a.session ≡ place + 1) }
-        ensures { self.new ≡ set self.old place item }
+    /// Takes the item of a place from it, if it has one.
+    fn clear(&mut self, place: usize)
+        requires { place < length self.old }
+        ensures { self.new ≡ set self.old place None }
     {
-        self.owns[place] = item;
-        settle(self.owns.as_slice(), self.bests.as_mut_slice(), place);
+        self.items[place] = None;
+        self.tree.set(place, None);
+        trim(self.items.as_slice(), &mut self.line);
+    }
+
+    /// Gives a place that has none its item.
+    fn add(&mut self, place: usize, item: TurnItem)
+        requires within { place < length self.old }
+        requires free { item_at self.old place ≡ None }
+        requires numbered { item.session ≡ place + 1 }
+        ensures { self.new ≡ set self.old place (Some item) }
+    {
+        self.items[place] = Some(item);
+        if !self.line.put(item) {
+            self.tree.set(place, Some(item));
+        }
     }
 
     /// Gives a session its item, in place of what it had. It takes no memory.
@@ -135,7 +158,9 @@ impl TurnQueue {
         requires { IsOpened item.session self.old }
         ensures { self.new ≡ set self.old (item.session - 1) (Some item) }
     {
-        self.set(item.session as usize - 1, Some(item));
+        let place = item.session as usize - 1;
+        self.clear(place);
+        self.add(place, item);
     }
 
     /// Takes a session's item from it, if it has one. It takes no memory.
@@ -143,7 +168,7 @@ impl TurnQueue {
         requires { IsOpened session self.old }
         ensures { self.new ≡ set self.old (session - 1) None }
     {
-        self.set(session as usize - 1, None);
+        self.clear(session as usize - 1);
     }
 
     /// The session that has the turn, whose item is taken from it. It takes no memory.

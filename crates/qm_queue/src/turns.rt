@@ -17,7 +17,7 @@ pub struct TurnItem {
 pub type TurnList = GrowingList<TurnItem>;
 
 /// Whether the one has its turn before the other.
-fn comes_before(one: &TurnItem, other: &TurnItem) -> bool
+pub(crate) fn comes_before(one: &TurnItem, other: &TurnItem) -> bool
     ensures { result ≡ precedes one.now other.now }
 {
     match (one.last_start, other.last_start) {

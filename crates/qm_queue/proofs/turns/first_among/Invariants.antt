@@ -1,5 +1,5 @@
 use Rattle.std.proofs.Common.{take}
-use Rattle.qm_queue.proofs.Orders.{IsFirst}
+use Rattle.qm_queue.specs.Firsts.{IsFirst}
 use Rattle.qm_queue.proofs.turns.first_among.Given as goal
 
 abbrev pub invariant-loop-item : goal.invariant-loop-item

@@ -1,12 +1,13 @@
-use Rattle.std.proofs.Common.{◌≡◌, ◌∙◌, ap, Option, List}
-use Rattle.qm_queue.specs.{Trees.item_at, declared.turns.TurnItem.TurnItem}
-use Rattle.qm_queue.proofs.Settling.{root-is, root-opened}
+use Rattle.std.proofs.Common.{sym}
+use Rattle.qm_queue.specs.{Firsts.IsFirst, Turns.waiting_in}
+use Rattle.qm_queue.proofs.{Lining.queue-first, Lining.first-opened, Orders.first-is}
 use Rattle.qm_queue.proofs.turn_queue.TurnQueue.first.Goals as goal
 
 pub returns : goal.returns
 returns c =
-    let root : c.root.result ≡ item_at c.self.inside.bests.items 0 = c.root.ensures ∙ ap (λ (xs : List (Option TurnItem)). item_at xs 0) c.as_slice.ensures.value in
+    let all : IsFirst (waiting_in c.self.inside.items.items) c.earlier.result.now =
+    queue-first c.self.inside.items.items c.self.inside.tree c.self.inside.line c.first.result c.first-2.result c.earlier.result.now c.self.invariant c.first.ensures c.first-2.ensures.first c.first-2.ensures.front c.earlier.ensures in
     rw (← c.self.view_is) record {
-      first = root ∙ root-is c.self.inside.owns.items c.self.inside.bests.items c.self.invariant.0;
-      opened = root-opened c.self.inside.owns.items c.self.inside.bests.items c.self.invariant.0 c.self.invariant.1 c.root.result root;
+      first = sym (first-is (waiting_in c.self.inside.items.items) c.earlier.result.now all);
+      opened = first-opened c.self.inside.items.items c.earlier.result.now c.self.invariant.0 all;
     }

@@ -1,9 +1,10 @@
-use Rattle.std.proofs.Common.{rules, ◌≡◌, ◌++◌, ◌∷◌, [], None}
-use Rattle.qm_queue.proofs.Settling.{tree-more, numbered-more}
+use Rattle.std.proofs.Common.{◌≡◌, ◌++◌, ◌∷◌, [], None, rules}
+use Rattle.qm_queue.proofs.Lining.{queue-more}
 use Rattle.qm_queue.proofs.turn_queue.TurnQueue.open.Goals as goal
 
 pub invariant_of-self-else-is_err-2 : goal.invariant_of-self-else-is_err-2
 invariant_of-self-else-is_err-2 c =
-    let bests : c.push.new.self.items ≡ c.self.inside.bests.items ++ None ∷ [] = search rules in
-    let owns : c.push-2.new.self.items ≡ c.self.inside.owns.items ++ None ∷ [] = search rules in
-    rw (bests, owns) (tree-more _ _ c.self.invariant.0, numbered-more _ c.self.invariant.1)
+    let items : c.push.new.self.items ≡ c.self.inside.items.items ++ None ∷ [] = search rules in
+    let tree : c.open.new.self ≡ c.self.inside.tree ++ None ∷ [] = search rules in
+    let line : c.reserve.new.self ≡ c.self.inside.line = search rules in
+    rw (items, tree, line) (queue-more c.self.inside.items.items c.self.inside.tree c.self.inside.line c.self.invariant)

@@ -1,6 +1,6 @@
 use Rattle.std.proofs.Common.{◌<◌, ◌∙◌, sym, arith, length}
 use Rattle.qm_queue.proofs.Settling.{told-already, same-item, told-below, told-first}
-use Rattle.qm_queue.proofs.turn_queue.+settle.Goals as goal
+use Rattle.qm_queue.proofs.tree.+settle.Goals as goal
 
 pub returns-then-eq : goal.returns-then-eq
 returns-then-eq t c =
