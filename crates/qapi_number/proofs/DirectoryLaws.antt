@@ -1,5 +1,5 @@
 -- Names whose first places are noted.
-use Rattle.std.proofs.Common.{◌≡◌, ◌+◌, ◌<◌, ℕ, Bool, true, false, cond, List, [], ◌∷◌, ◌++◌, map, length, take, get_or, Option, Some, None, position, Result, Ok, Err, OnOk, refl, ap, sym, subst, ◌∙◌, arith}
+use Rattle.std.proofs.Common.{◌≡◌, ◌+◌, ◌<◌, ℕ, Bool, true, false, cond, List, [], ◌∷◌, ◌++◌, map, length, take, get_or, Option, Some, None, Result, Ok, Err, OnOk, refl, ap, sym, subst, ◌∙◌, arith}
 use Rattle.std.specs.{List.position_from, Map.lookup, Option.option_or, Str.bytes_eq}
 use Rattle.std.proofs.{lemmas.Iterator.Adapters.position_from-zero, lemmas.List.length-map, lemmas.List.length-take-le, lemmas.List.map_more, lemmas.Option.none-some, lemmas.Slice.Eq.bytes_eq-Decides}
 use Rattle.std.specs.Prelude.{if◌then◌else◌}

@@ -1,5 +1,5 @@
 -- Lists whose items are told with their places.
-use Rattle.std.proofs.Common.{◌≡◌, ◌<◌, ◌≤◌, ◌+◌, ℕ, Bool, true, false, cond, List, [], ◌∷◌, ◌++◌, map, length, take, get_or, refl, sym, ap, ◌∙◌, append_assoc, append-nil, arith}
+use Rattle.std.proofs.Common.{◌≡◌, ◌<◌, ◌+◌, ℕ, Bool, cond, List, [], ◌∷◌, ◌++◌, map, length, take, get_or, refl, sym, ap, ◌∙◌, append_assoc, append-nil, arith}
 use Rattle.std.specs.{List.enumerate_from, List.flat_map, List.filter, List.fold}
 use Rattle.std.proofs.lemmas.{List.map_more, List.take_more, List.length-map, List.length-take-le, List.Elements.filter-append}
 

@@ -1,5 +1,5 @@
 -- What the types of definitions are, by their numbers (QAPI code generation guide, "Schema syntax").
-use Rattle.std.specs.Prelude.{ℕ, zero, suc, ◌+◌, ◌==◌, Bool, true, false, cond, List, [], ◌∷◌, ◌++◌, map, length, codes, Option, Some, None, unwrap_or, slice_get, slice_index_or}
+use Rattle.std.specs.Prelude.{ℕ, zero, suc, ◌+◌, ◌==◌, cond, List, [], ◌∷◌, ◌++◌, map, length, codes, Option, Some, None, unwrap_or, slice_get, slice_index_or}
 use Rattle.std.specs.{List.enumerate_from, List.flat_map, Option.option_map, Option.option_and_then}
 use Rattle.qapi_types.specs.Lookups.{place_of}
 use Rattle.qapi_types.specs.declared.kind.{Branch.Branch, Kind.Kind, MemberDef.MemberDef, ObjectDef.ObjectDef, ValueDef.ValueDef}
@@ -81,7 +81,7 @@ object_with n d members = record {
   members = members;
   tag = tag_of d members;
   branches = map (branch_def n (tag_names n.types members (tag_of d members))) (variants_of d);
-  features = features_of d
+  features = features_of d;
 }
 
 -- the alternatives of an alternate

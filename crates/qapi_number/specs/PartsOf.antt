@@ -1,5 +1,5 @@
 -- The commands, events and types of definitions (QAPI code generation guide, "Commands", "Events").
-use Rattle.std.specs.Prelude.{ℕ, Bool, true, false, cond, List, [], ◌∷◌, ◌++◌, Option, Some, None}
+use Rattle.std.specs.Prelude.{ℕ, Bool, true, false, cond, List, [], ◌∷◌, Option, Some, None}
 use Rattle.std.specs.{List.enumerate_from, List.filter, List.flat_map}
 use Rattle.qapi_types.specs.declared.parts.{ArgType.ArgType, CommandDef.CommandDef, EventDef.EventDef, Parts.Parts}
 use Rattle.qapi_types.specs.declared.parts.ArgType.TheVariants as args
@@ -46,7 +46,7 @@ command_def n place at d = record {
   ret = returned_number n (returns_of d);
   allow_oob = d.flags.allow_oob;
   allow_preconfig = d.flags.allow_preconfig;
-  features = features_of d
+  features = features_of d;
 }
 
 abbrev pub event_def : Numbering → ℕ → ℕ → Definition → EventDef
@@ -54,7 +54,7 @@ event_def n place at d = record {
   name = d.name;
   place = place;
   arg = data_number n at (members_of d) (data_of d);
-  features = features_of d
+  features = features_of d;
 }
 
 abbrev pub command_in : Numbering → Sort → ℕ → ℕ → Definition → List CommandDef

@@ -1,6 +1,6 @@
 -- The definitions that stand before those of each schema (this project's own choice, written as a schema is: QAPI
 -- code generation guide, "Schema syntax").
-use Rattle.std.specs.Prelude.{ℕ, Bool, true, false, not, List, [], ◌∷◌, ◌++◌, map, codes}
+use Rattle.std.specs.Prelude.{ℕ, Bool, true, false, not, List, [], ◌∷◌, codes}
 use Rattle.std.specs.{List.filter, List.list_any, Str.bytes_eq}
 use Rattle.qapi_define.specs.declared.definition.{Definition.Definition, EnumValue.EnumValue, Flags.Flags, Member.Member, Part.Part, Sort.Sort, TypeName.TypeName}
 use Rattle.qapi_define.specs.declared.definition.Part.TheVariants as part

@@ -119,7 +119,12 @@ fn defined_kinds(alloc: Global, numbering: &Numbering) -> Result<KindList, NoMem
     ensures { IfOk result (λ kinds. kinds ≡ kinds_defined numbering.now) }
 {
     let bases = bases(alloc, &numbering.types)?;
-    kinds_among(alloc, numbering, bases.as_slice(), numbering.types.definitions())
+    kinds_among(
+        alloc,
+        numbering,
+        bases.as_slice(),
+        numbering.types.definitions(),
+    )
 }
 
 fn add_wholes(kinds: &mut KindList) -> Result<(), NoMemory>

@@ -160,7 +160,9 @@ pub fn prelude(alloc: Global) -> Result<DefinitionList, NoMemory>
 fn has_name(definitions: &[Definition], name: &[u8]) -> bool
     ensures { result ≡ list_any (λ d. bytes_eq d.name name.now) definitions.now }
 {
-    definitions.iter().any(|other| other.name.as_slice() == name)
+    definitions
+        .iter()
+        .any(|other| other.name.as_slice() == name)
 }
 
 fn keep_others(known: &[Definition], kept: &mut Vec<Definition>)
@@ -190,10 +192,7 @@ fn add_all(list: DefinitionList, more: DefinitionList) -> Result<DefinitionList,
 
 /// The definitions that stand before those of each schema, and then those of the schema whose
 /// names are no names of the former.
-pub fn with_prelude(
-    alloc: Global,
-    definitions: DefinitionList,
-) -> Result<DefinitionList, NoMemory>
+pub fn with_prelude(alloc: Global, definitions: DefinitionList) -> Result<DefinitionList, NoMemory>
     ensures { IfOk result (λ all. all ≡ told.prelude ++ told.without_prelude_names definitions) }
 {
     let first = prelude(alloc)?;

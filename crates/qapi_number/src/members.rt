@@ -10,11 +10,7 @@ use qapi_types::{MemberDef, MemberList};
 use qm_base::{GrowingList, NoMemory};
 use std::alloc::Global;
 
-fn member_def(
-    alloc: Global,
-    numbering: &Numbering,
-    member: &Member,
-) -> Result<MemberDef, NoMemory>
+fn member_def(alloc: Global, numbering: &Numbering, member: &Member) -> Result<MemberDef, NoMemory>
     ensures { IfOk result (λ m. m ≡ member_told numbering.now member.now) }
 {
     let name = member.name.copy(alloc)?;
@@ -86,11 +82,7 @@ fn add_members_at(
     }
 }
 
-fn members_along(
-    alloc: Global,
-    numbering: &Numbering,
-    line: &[u32],
-) -> Result<MemberList, NoMemory>
+fn members_along(alloc: Global, numbering: &Numbering, line: &[u32]) -> Result<MemberList, NoMemory>
     ensures { IfOk result (λ list. list ≡ member_defs numbering.now (flat_map (own_members_at numbering.now.types) line.now)) }
 {
     let mut list = GrowingList::new(alloc);

@@ -10,11 +10,7 @@ use qapi_define::{Definition, Member, Part, Sort, TypeName, Variant};
 use qm_base::NoMemory;
 use std::alloc::Global;
 
-fn note_type(
-    types: &TypeTable,
-    implicit: &mut ImplicitIndex,
-    of: &TypeName,
-) -> Result<(), NoMemory>
+fn note_type(types: &TypeTable, implicit: &mut ImplicitIndex, of: &TypeName) -> Result<(), NoMemory>
     ensures { OnOk result (implicit.new ≡ fold with_implicit implicit.old (implied types.now of.now)) }
 {
     if !of.is_array {

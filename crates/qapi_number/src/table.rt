@@ -67,21 +67,31 @@ fn commands_among(
 {
     let mut commands = GrowingList::new(alloc);
     for (index, call) in calls.iter().enumerate() {
-        add_command(alloc, numbering, index, call.at, call.definition, &mut commands)?;
+        add_command(
+            alloc,
+            numbering,
+            index,
+            call.at,
+            call.definition,
+            &mut commands,
+        )?;
     }
     Ok(commands)
 }
 
-fn events_among(
-    alloc: Global,
-    numbering: &Numbering,
-    calls: &[Call],
-) -> Result<EventList, NoMemory>
+fn events_among(alloc: Global, numbering: &Numbering, calls: &[Call]) -> Result<EventList, NoMemory>
     ensures { IfOk result (λ events. events ≡ flat_map (λ e. event_in numbering.now e.1.1.sort e.0 e.1.0 e.1.1) (enumerate_from 0 (map call_told calls.now))) }
 {
     let mut events = GrowingList::new(alloc);
     for (index, call) in calls.iter().enumerate() {
-        add_event(alloc, numbering, index, call.at, call.definition, &mut events)?;
+        add_event(
+            alloc,
+            numbering,
+            index,
+            call.at,
+            call.definition,
+            &mut events,
+        )?;
     }
     Ok(events)
 }

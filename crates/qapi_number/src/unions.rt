@@ -76,7 +76,9 @@ fn value_names<'a>(
 fn position_among(members: &[MemberDef], name: &[u8]) -> Option<usize>
     ensures { result ≡ position (λ m. bytes_eq name.now m.name) members.now }
 {
-    members.iter().position(|member| name == member.name.as_slice())
+    members
+        .iter()
+        .position(|member| name == member.name.as_slice())
 }
 
 fn position_of(members: &[MemberDef], name: &[u8]) -> Option<usize>

@@ -64,11 +64,7 @@ fn type_of_name(alloc: Global, name: &[u8], is_array: bool) -> Result<TypeName, 
 }
 
 /// Adds a value without features.
-pub fn add_value(
-    alloc: Global,
-    values: &mut EnumValueList,
-    name: &[u8],
-) -> Result<(), NoMemory>
+pub fn add_value(alloc: Global, values: &mut EnumValueList, name: &[u8]) -> Result<(), NoMemory>
     ensures { OnOk result (values.new ≡ values.old ++ value name.now ∷ []) }
 {
     let name = Text::of(alloc, name)?;
@@ -118,33 +114,21 @@ pub fn add_optional_array(
 }
 
 /// An enum of values.
-pub fn enum_named(
-    alloc: Global,
-    name: &[u8],
-    values: EnumValueList,
-) -> Result<Definition, NoMemory>
+pub fn enum_named(alloc: Global, name: &[u8], values: EnumValueList) -> Result<Definition, NoMemory>
     ensures { IfOk result (λ d. d ≡ enum_of name.now values) }
 {
     saying(alloc, Sort::Enum, name, false, Part::Values(values))
 }
 
 /// A struct of members.
-pub fn struct_named(
-    alloc: Global,
-    name: &[u8],
-    members: MemberList,
-) -> Result<Definition, NoMemory>
+pub fn struct_named(alloc: Global, name: &[u8], members: MemberList) -> Result<Definition, NoMemory>
     ensures { IfOk result (λ d. d ≡ struct_of name.now members) }
 {
     saying(alloc, Sort::Struct, name, false, Part::Members(members))
 }
 
 /// An event of members.
-pub fn event_named(
-    alloc: Global,
-    name: &[u8],
-    members: MemberList,
-) -> Result<Definition, NoMemory>
+pub fn event_named(alloc: Global, name: &[u8], members: MemberList) -> Result<Definition, NoMemory>
     ensures { IfOk result (λ d. d ≡ event_of name.now members) }
 {
     saying(alloc, Sort::Event, name, false, Part::Members(members))
