@@ -1,0 +1,5 @@
+pub mod ChoiceLaws
+pub mod DirectoryLaws
+pub mod EnumerateLaws
+pub mod LineLaws
+pub mod RestLaws
