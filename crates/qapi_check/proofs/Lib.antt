@@ -1,0 +1,4 @@
+pub mod PassLaws
+pub mod ClashLaws
+pub mod TrailLaws
+pub mod WalkLaws
