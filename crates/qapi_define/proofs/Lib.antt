@@ -1,0 +1,3 @@
+pub mod ConditionLaws
+pub mod Gathering
+pub mod TurnLaws

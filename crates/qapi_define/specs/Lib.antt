@@ -1,1 +1,7 @@
+pub mod Conditions
+pub mod Definitions
+pub mod Frames
+pub mod Members
+pub mod References
 pub mod Saying
+pub mod Trees
