@@ -1,1 +1,5 @@
 pub mod Blames
+pub mod BuiltIns
+pub mod Gathering
+pub mod Names
+pub mod Naming
