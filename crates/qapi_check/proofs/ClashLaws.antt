@@ -1,9 +1,9 @@
 -- Whether a name stands a second time along some choice of branches, by what a type leads to.
-use Rattle.std.proofs.Common.{◌≡◌, ◌<◌, ◌≤◌, ◌+◌, ◌||◌, ◌⊎◌, ◌↔◌, ℕ, zero, suc, Bool, true, false, IsTrue, List, [], ◌∷◌, ◌++◌, length, map, take, get_or, Option, Some, None, is_some, refl, sym, ap, ◌∙◌, subst, inl, inr, arith, bytes_eq}
+use Rattle.std.proofs.Common.{◌≡◌, ◌<◌, ◌≤◌, ◌+◌, ◌||◌, ◌↔◌, ℕ, zero, suc, Bool, true, false, IsTrue, List, [], ◌∷◌, ◌++◌, length, map, take, get_or, Option, Some, None, is_some, refl, sym, ap, ◌∙◌, subst, inl, inr, arith, bytes_eq}
 use Rattle.std.proofs.lemmas.{Bool.cases_lt, Grind.common_steps}
 use Rattle.std.proofs.lemmas.List.{Folds.list_any-append, length-append, get_or_append_left, get_or_push, take_more}
 use Rattle.qapi_types.specs.declared.kind.{Kind.Kind, MemberDef.MemberDef}
-use Rattle.qapi_types.specs.{Chains.has, Chains.Leads, Chains.marked, Goodness.choices_of, Sets.HasNames, Sets.has_member_in, Types.branch_types, Types.kind_of, Types.member_names, Types.members_of}
+use Rattle.qapi_types.specs.{Chains.has, Chains.Leads, Chains.marked, Goodness.choices_of, Sets.HasNames, Sets.has_member_in, Types.kind_of, Types.member_names, Types.members_of}
 use Rattle.qapi_types.specs.Choices.{times, Table, names_of, stays, ClashesAfter, AreApart, stands, again, shares, IsFaulty}
 use Rattle.qapi_types.proofs.ChainLaws.{has-either, marked-within}
 use Rattle.qapi_types.proofs.ChoiceLaws.{times-append, both, shares-both, again-some, Within, within, held, faulty}

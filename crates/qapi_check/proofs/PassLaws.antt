@@ -1,5 +1,5 @@
 -- The first definition of a type that clashes.
-use Rattle.std.proofs.Common.{◌≡◌, ◌<◌, ◌≤◌, ◌+◌, ℕ, Bool, true, false, cond, List, [], ◌∷◌, ◌++◌, length, take, drop, get_or, Option, Some, None, refl, sym, ap, ◌∙◌, subst, arith}
+use Rattle.std.proofs.Common.{◌≡◌, ◌<◌, ◌≤◌, ◌+◌, ℕ, true, false, cond, List, [], ◌∷◌, ◌++◌, length, take, drop, get_or, Option, Some, None, sym, ap, ◌∙◌, arith}
 use Rattle.std.specs.{List.filter, Option.option_or}
 use Rattle.std.proofs.lemmas.List.{append-nil, drop_all, drop_more, Elements.filter_more, length-append}
 use Rattle.qapi_define.specs.declared.definition.Definition.{Definition}

@@ -1,9 +1,9 @@
 -- Chains of things without a repeat, and what they find.
-use Rattle.std.proofs.Common.{◌≡◌, ◌<◌, ◌≤◌, ◌+◌, ◌||◌, ℕ, zero, suc, nat_eq, Bool, true, false, List, [], ◌∷◌, ◌++◌, length, map, Option, Some, None, refl, sym, ap, ◌∙◌, subst, inl, inr, arith, append_assoc}
+use Rattle.std.proofs.Common.{◌≡◌, ◌<◌, ◌≤◌, ◌||◌, ℕ, zero, suc, nat_eq, Bool, true, false, List, [], ◌∷◌, ◌++◌, length, map, Option, Some, None, refl, sym, ap, ◌∙◌, subst, inl, inr, arith, append_assoc}
 use Rattle.std.specs.{List.IsDistinct, List.AllByRecursion, Option.option_or}
 use Rattle.std.proofs.lemmas.{Bool.Decides.Decides-eqb, Map.Keys.IsDistinct-cons, Map.Steps.length-le_from_distinct_below, List.get_or_past, List.length-map}
 use Rattle.qapi_define.specs.Saying.{first_some}
-use Rattle.qapi_types.specs.Chains.{has, row_of, Refers, Leads, by_one, and_one, NoneOnCycle}
+use Rattle.qapi_types.specs.Chains.{has, row_of, Refers, by_one, and_one, NoneOnCycle}
 use Rattle.qapi_types.specs.Choices.{Table, times, names_of, again, ClashesAfter, Along, stays, takes}
 use Rattle.qapi_types.specs.declared.kind.Kind.{Kind}
 use Rattle.qapi_types.specs.{Goodness.choices_of, Types.member_names, Types.branch_types}

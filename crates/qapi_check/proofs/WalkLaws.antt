@@ -1,5 +1,5 @@
 -- The way down to the first name that stands a second time.
-use Rattle.std.proofs.Common.{◌≡◌, ◌<◌, ◌≤◌, ◌+◌, ◌||◌, ◌↔◌, ℕ, zero, suc, nat_eq, true, List, [], ◌∷◌, ◌++◌, length, map, take, drop, get_or, Bool, false, not, IsTrue, Option, Some, None, refl, sym, ap, ◌∙◌, subst, arith, append_assoc, bytes_eq}
+use Rattle.std.proofs.Common.{◌≡◌, ◌<◌, ◌≤◌, ◌+◌, ◌||◌, ◌↔◌, ℕ, zero, suc, true, List, [], ◌∷◌, ◌++◌, length, map, take, drop, get_or, Bool, false, not, IsTrue, Option, Some, None, refl, sym, ap, ◌∙◌, subst, arith, append_assoc, bytes_eq}
 use Rattle.std.proofs.lemmas.{Bool.Decides.Decides-eqb, List.Folds.list_any-append}
 use Rattle.std.proofs.lemmas.List.{drop_all, drop_more, length-map, map_more, take_all}
 use Rattle.qapi_types.specs.declared.kind.{Kind.Kind, MemberDef.MemberDef}

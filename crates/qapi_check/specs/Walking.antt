@@ -1,8 +1,8 @@
 -- The way down the branches to a name that stands a second time. This serves private functions.
-use Rattle.std.specs.Prelude.{◌≡◌, ◌<◌, ◌+◌, ◌⊎◌, ◌++◌, ℕ, nat_eq, Bool, true, false, List, [], ◌∷◌, length, map, Option, Some, None}
+use Rattle.std.specs.Prelude.{◌≡◌, ◌<◌, ◌+◌, ◌⊎◌, ◌++◌, ℕ, nat_eq, Bool, true, false, List, ◌∷◌, length, map, Option, Some, None}
 use Rattle.std.specs.List.{IsDistinct}
 use Rattle.qapi_types.specs.declared.kind.Kind.{Kind}
-use Rattle.qapi_types.specs.{Chains.has, Chains.row_of, Chains.IsInside, Chains.Leads, Chains.NoneOnCycle, Chains.marked}
+use Rattle.qapi_types.specs.{Chains.has, Chains.IsInside, Chains.Leads, Chains.NoneOnCycle, Chains.marked}
 use Rattle.qapi_types.specs.{Choices.AreApart, Choices.ClashesAfter, Choices.IsFaulty, Choices.Table, Choices.again, Choices.names_of, Choices.shares}
 use Rattle.qapi_types.specs.{Goodness.choices_of, Sets.HasNames, Types.branch_types}
 use Rattle.qapi_check.specs.Clashes.{again_in, clash_of}

@@ -1,4 +1,3 @@
-use Rattle.std.proofs.Common.{rules}
 use Rattle.qapi_types.specs.Goodness.{choices_of}
 use Rattle.qapi_check.proofs.ClashLaws.{mark_more}
 use Rattle.qapi_check.proofs.choices.faulty_types.Goals as goal

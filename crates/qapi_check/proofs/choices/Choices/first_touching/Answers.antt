@@ -1,4 +1,4 @@
-use Rattle.std.proofs.Common.{true, ◌≡◌, take, drop, suc, arith, rules}
+use Rattle.std.proofs.Common.{true, ◌≡◌, take, drop, suc, arith}
 use Rattle.std.proofs.Math.Seq.{split_at}
 use Rattle.qapi_types.specs.Goodness.{choices_of}
 use Rattle.qapi_check.proofs.ClashLaws.{none_more}

@@ -1,4 +1,4 @@
-use Rattle.std.proofs.Common.{take, Option, Some, None}
+use Rattle.std.proofs.Common.{take, None}
 use Rattle.qapi_types.specs.Goodness.{choices_of}
 use Rattle.qapi_check.specs.Walking.{IsFirstTouching}
 use Rattle.qapi_check.proofs.choices.Choices.first_touching.Given as goal
