@@ -1,2 +1,4 @@
+pub mod Checking
 pub mod Clashes
+pub mod Stubs
 pub mod Walking

@@ -3,9 +3,14 @@
 #![tactic(auto)]
 
 mod acyclic;
+pub mod checking;
 pub mod choices;
 pub mod clashes;
+pub mod loading;
+pub mod stubs;
 
 pub use acyclic::have_no_cycle;
+pub use checking::check;
 pub use choices::Choices;
 pub use clashes::clashes_pass;
+pub use loading::{SchemaFault, load_schema};
