@@ -1,0 +1,5 @@
+pub mod PassLaws
+pub mod ClashLaws
+pub mod TrailLaws
+pub mod WalkLaws
+mod FromLaws

@@ -1,0 +1,3 @@
+pub mod Checking
+pub mod Clashes
+pub mod Walking
