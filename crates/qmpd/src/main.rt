@@ -1,8 +1,13 @@
 //! qmpd: a monitor server that speaks the QEMU Machine Protocol.
 #![tactic(auto)]
 
+mod check;
+mod defines;
+mod loader;
 mod offline;
 mod outside;
+mod refusal;
+mod rules;
 #[cfg(test)]
 mod tests;
 mod words;
