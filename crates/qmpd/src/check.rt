@@ -1,8 +1,7 @@
 //! The command `check`.
-ghost use Rattle.std.specs.Prelude.{◌≡◌, IfOk, IfSome, ◌<◌, length, position, Some};
-ghost use Rattle.qapi_types.specs.declared.kind.Kind.{Kind as KindValue};
+ghost use Rattle.std.specs.Prelude.{◌≡◌, IfOk, position, Some};
 ghost use Rattle.qm_script.specs.Plays.{sunk};
-ghost use Rattle.qmpd.specs.Answers.{Answers, Ends};
+ghost use Rattle.qmpd.specs.Answers.{Answers};
 ghost use Rattle.qmpd.specs.Output.{is_str as is_str_kind, named_types as named_types_in, ok_line as ok_line_of};
 ghost use Rattle.qmpd.specs.Words.{Check};
 
@@ -34,10 +33,16 @@ fn is_str(kind: &Kind) -> bool
     }
 }
 
+fn first_str(kinds: &[Kind]) -> Option<usize>
+    ensures { result ≡ position is_str_kind kinds.now }
+{
+    kinds.iter().position(|kind| is_str(kind))
+}
+
 fn named_types(kinds: &[Kind]) -> usize
     ensures { result ≡ named_types_in kinds.now }
 {
-    match kinds.iter().position(|kind| is_str(kind)) {
+    match first_str(kinds) {
         Some(place) => place,
         None => kinds.len(),
     }
