@@ -13,14 +13,14 @@ same_schema files main main' names names' m n =
 pub returns-in_default : goal.returns-in_default
 returns-in_default g c = wanted_memory _ refl refl
 
-pub returns-in-Ok : goal.returns-in-Ok
-returns-in-Ok g c =
-    checked _ _ c.args.words.now (Ok c.in-Ok.schema) refl c.requires
-    (λ files e. c.in-Ok.ensures.told files e tt ∙ same_schema files _ _ _ _ (search rules) (search rules))
-    (search rules) (c.put_text.ensures.ends (ok_line c.in-Ok.schema) c.ok_line.ensures)
+pub returns-in-Ok-load_schema : goal.returns-in-Ok-load_schema
+returns-in-Ok-load_schema g c =
+    checked _ _ c.args.words.now (Ok c.in-Ok-load_schema.schema) refl c.requires
+    (λ files e. c.in-Ok-load_schema.ensures.told files e tt ∙ same_schema files _ _ _ _ (search rules) (search rules))
+    (search rules) (c.put_text.ensures.ends (ok_line c.in-Ok-load_schema.schema) c.ok_line.ensures)
 
-pub returns-in-Err : goal.returns-in-Err
-returns-in-Err g c =
+pub returns : goal.returns
+returns g c =
     refused _ _ c.args.words.now _ c.in-Err.fault refl c.requires
     (λ files e answer. c.in-Err.ensures.told files e answer ∙ same_schema files _ _ _ _ (search rules) (search rules))
     c.in-Err.ensures.cause (λ unread. subst IsSome (search rules) (c.in-Err.ensures.asked unread)) (search rules) c.report.ensures.nothing
