@@ -180,10 +180,10 @@ exactly : (words : Option Words) (outside : Outside) (wanted status : ℕ) (Caus
     wanted ≢ 1 → wanted ≢ 6 → wanted ≢ 7 → (status ≢ 1 → status ≢ 6 → status ≢ 7 → status ≡ (output_over words outside).status) →
     (Says words outside wanted → Cause) → (Cause → (output_over words outside).status ≡ wanted) → Exactly wanted Cause status
 exactly words outside wanted status Cause one six seven plain cause number = record {
-    only = λ is.
+  only = λ is.
       cause (says_at words outside wanted (sym is ∙ plain (λ e. one (sym is ∙ e)) (λ e. six (sym is ∙ e)) (λ e. seven (sym is ∙ e))));
-    always = λ given no_one no_six no_seven. plain no_one no_six no_seven ∙ number given;
-  }
+  always = λ given no_one no_six no_seven. plain no_one no_six no_seven ∙ number given;
+}
 
 gives : (outside : Outside) (ran : Ran) (status : ℕ) → (status ≢ 1 → status ≢ 6 → status ≢ 7 → IsPlain outside ran status) →
     (status ≡ 1 → HoldsPart ran.sink.held (output_over ran.words outside).bytes ran.sink.holds) →

@@ -138,9 +138,9 @@ abbrev pub words_given : List ℕ → Given → Option Words
 words_given verb given =
     if is_some given.bind then None
     else option_and_then (λ command.
-      option_and_then (λ workers.
-      option_map (λ entries. record { command = command; schema = given.schema; define = given.define; entries = entries })
-      (number_or MOST_ENTRIES MOST_ENTRIES given.journal)) (number_or 4 32 given.workers)) (command_of verb given)
+    option_and_then (λ workers.
+    option_map (λ entries. record { command = command; schema = given.schema; define = given.define; entries = entries })
+    (number_or MOST_ENTRIES MOST_ENTRIES given.journal)) (number_or 4 32 given.workers)) (command_of verb given)
 
 -- what the words ask for; other words are outside the grammar
 abbrev pub words_of : List (List ℕ) → Option Words

@@ -58,11 +58,7 @@ fn ok_line(alloc: Global, schema: &Schema) -> Result<Text, NoMemory>
     line.extend(b" commands, ")?;
     line.extend(events.format(parts.events.len()).as_bytes())?;
     line.extend(b" events, ")?;
-    line.extend(
-        types
-            .format(named_types(parts.kinds.as_slice()))
-            .as_bytes(),
-    )?;
+    line.extend(types.format(named_types(parts.kinds.as_slice())).as_bytes())?;
     line.extend(b" types\n")?;
     Ok(line)
 }

@@ -29,10 +29,7 @@ fn pieces(alloc: Global, text: &[u8]) -> Result<GrowingList<Text>, NoMemory>
 }
 
 /// The names of `--define A,B`, of which some may be empty; none without the option.
-pub fn names_defined(
-    alloc: Global,
-    define: Option<&[u8]>,
-) -> Result<GrowingList<Text>, NoMemory>
+pub fn names_defined(alloc: Global, define: Option<&[u8]>) -> Result<GrowingList<Text>, NoMemory>
     ensures { IfOk result (λ names. names ≡ names_defined_of (option_copied define.entry)) }
 {
     match define {

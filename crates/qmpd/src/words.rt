@@ -47,12 +47,12 @@ impl<'a> Model for Given<'a> {
     ghost Value = { Values };
 
     ghost view = { λ g. record {
-        schema = option_copied g.schema;
-        bind = option_copied g.bind;
-        define = option_copied g.define;
-        journal = option_copied g.journal;
-        workers = option_copied g.workers;
-        positional = option_copied g.positional;
+      schema = option_copied g.schema;
+      bind = option_copied g.bind;
+      define = option_copied g.define;
+      journal = option_copied g.journal;
+      workers = option_copied g.workers;
+      positional = option_copied g.positional;
     } };
 }
 
@@ -267,10 +267,10 @@ impl<'a> Model for Words<'a> {
     ghost Value = { Asked };
 
     ghost view = { λ w. record {
-        command = command_told w.command;
-        schema = option_copied w.schema;
-        define = option_copied w.define;
-        entries = w.entries;
+      command = command_told w.command;
+      schema = option_copied w.schema;
+      define = option_copied w.define;
+      entries = w.entries;
     } };
 
     ghost invariant = { λ w. (1 ≤ w.entries) × (w.entries ≤ MOST_ENTRIES) };

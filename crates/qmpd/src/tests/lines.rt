@@ -63,7 +63,10 @@ fn each_rule_has_its_line(rt: HostRuntime) -> Result<(), Fail> {
             line: 7,
             name: Text::of(alloc, b"n")?,
         };
-        assert!(rt; told(alloc, &Refusal::Schema(fault), FRONT, line) == (3, true), "{line}");
+        assert!(rt;
+            told(alloc, &Refusal::Schema(fault), FRONT, line) == (3, true),
+            "{line}"
+        );
     }
     for (rule, line) in CHECKING {
         let fault = CheckFault {
@@ -72,7 +75,10 @@ fn each_rule_has_its_line(rt: HostRuntime) -> Result<(), Fail> {
             line: 7,
             name: Text::of(alloc, b"n")?,
         };
-        assert!(rt; told(alloc, &Refusal::Check(fault), FRONT, line) == (3, true), "{line}");
+        assert!(rt;
+            told(alloc, &Refusal::Check(fault), FRONT, line) == (3, true),
+            "{line}"
+        );
     }
     Ok(())
 }
@@ -94,8 +100,22 @@ fn an_empty_name_leaves_a_blank(rt: HostRuntime) -> Result<(), Fail> {
 fn other_refusals(rt: HostRuntime) -> Result<(), Fail> {
     let alloc = rt.alloc();
     let name = Text::of(alloc, b"b.json")?;
-    assert!(rt; told(alloc, &Refusal::Library(name), b"error: cannot read ", "b.json\n") == (6, true));
-    assert!(rt; told(alloc, &Refusal::Words, b"error: usage: qmpd check|introspect|replay SCRIPT|", "serve SOCKET|drill N [--schema F] [--bind F] [--define A,B] [--journal N] [--workers N]\n") == (2, true));
+    assert!(rt;
+        told(
+            alloc,
+            &Refusal::Library(name),
+            b"error: cannot read ",
+            "b.json\n"
+        ) == (6, true)
+    );
+    assert!(rt;
+        told(
+            alloc,
+            &Refusal::Words,
+            b"error: usage: qmpd check|introspect|replay SCRIPT|",
+            "serve SOCKET|drill N [--schema F] [--bind F] [--define A,B] [--journal N] [--workers N]\n"
+        ) == (2, true)
+    );
     assert!(rt; told(alloc, &Refusal::Memory, b"", "") == (1, true));
     Ok(())
 }
