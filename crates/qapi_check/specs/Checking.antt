@@ -86,3 +86,9 @@ pub record SchemaFrom (tells : Option (List NamedText)) (main : Option (List ℕ
   pub files : List NamedText
   pub told : (told : List NamedText) → tells ≡ Some told → files ≡ told
   pub answer : IsAnswer result → result ≡ table_of files main defines
+
+-- reading a file failed
+abbrev pub IsUnread : {A : Type 0} → Result A SchemaFault → Type 0
+IsUnread (Ok x) = ⊥
+IsUnread (Err (schema.Load fault)) = fault.rule ≡ ReadFault
+IsUnread (Err (schema.Check fault)) = ⊥

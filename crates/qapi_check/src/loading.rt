@@ -1,7 +1,7 @@
-ghost use Rattle.std.specs.Prelude.{◌≡◌};
+ghost use Rattle.std.specs.Prelude.{◌≡◌, IfErr, IsSome};
 ghost use Rattle.std.specs.Option.{option_copied};
 ghost use Rattle.qapi_load.specs.Causes.{HasCause as HasLoadCause};
-ghost use Rattle.qapi_check.specs.Checking.{HasCause, SchemaFrom, SourcesFrom};
+ghost use Rattle.qapi_check.specs.Checking.{HasCause, IsUnread, SchemaFrom, SourcesFrom};
 
 use crate::checking::check_sources;
 use qapi_load::{Library, LoadFault, SourceList, load_files};
@@ -26,6 +26,7 @@ fn sources<L: Library>(
     main: Option<&[u8]>,
 ) -> Result<SourceList, LoadFault>
     ensures given { SourcesFrom (L.files library.old) (option_copied main.entry) result }
+    ensures asked { IfErr result (λ fault. IsSome (option_copied main.entry)) }
     ensures same { L.files library.new ≡ L.files library.old }
     ensures cause { HasLoadCause result
         (record { count = L.faults library.old; name = L.failed_name library.old })
@@ -51,6 +52,7 @@ pub fn load_schema<L: Library>(
     defines: &[Text],
 ) -> Result<Schema, SchemaFault>
     ensures given { SchemaFrom (L.files library.old) (option_copied main.entry) defines.now result }
+    ensures asked { IsUnread result → IsSome (option_copied main.entry) }
     ensures same { L.files library.new ≡ L.files library.old }
     ensures cause { HasCause result
         (record { count = L.faults library.old; name = L.failed_name library.old })

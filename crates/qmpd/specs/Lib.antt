@@ -1,4 +1,6 @@
 pub mod Answers
 pub mod Causes
 pub mod Output
+pub mod Refusals
+pub mod Rules
 pub mod Words

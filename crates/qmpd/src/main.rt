@@ -1,8 +1,12 @@
 //! qmpd: a monitor server that speaks the QEMU Machine Protocol.
 #![tactic(auto)]
 
+mod check;
+mod defines;
 mod offline;
 mod outside;
+mod refusal;
+mod rules;
 #[cfg(test)]
 mod tests;
 mod words;

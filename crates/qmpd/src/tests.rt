@@ -6,7 +6,9 @@ use std::alloc::Global;
 use std::test::Fail;
 
 mod edge;
+mod grammar;
 mod lengths;
+mod lines;
 mod runs;
 
 /// What a run answers: its status and what was put.
@@ -68,5 +70,23 @@ fn a_library_or_sink_that_fails(rt: HostRuntime) -> Result<(), Fail> {
         assert_eq!(rt; ran.status, 7);
         assert!(rt; ran.sink.taken() == output.as_bytes());
     }
+    Ok(())
+}
+
+#[test]
+fn words_in_the_grammar_and_outside(rt: HostRuntime) -> Result<(), Fail> {
+    for words in grammar::LAWFUL {
+        let ran = run(rt.alloc(), words, "", 0, 0)?;
+        assert_eq!(rt; ran.status, 0);
+        assert!(rt; ran.sink.taken() == b"end 0\n".as_slice());
+    }
+    for words in grammar::OUTSIDE {
+        let ran = run(rt.alloc(), words, "", 0, 0)?;
+        assert_eq!(rt; ran.status, 2);
+        assert!(rt; ran.sink.taken().starts_with(b"error: usage: qmpd check|"));
+    }
+    let ran = run(rt.alloc(), &["replay", "--", "-a"], "", 0, 0)?;
+    assert_eq!(rt; ran.status, 5);
+    assert!(rt; ran.sink.taken() == b"error: script -a: no-file\n".as_slice());
     Ok(())
 }

@@ -1,27 +1,17 @@
-use Rattle.std.proofs.Common.{rules, ◌≡◌, refl, sym, ◌∙◌, ap, Some, None, List, ℕ, map, string_bytes}
-use Rattle.qapi_load.specs.Files.{text_of}
-use Rattle.qmpd.specs.Words.{replay_of}
-use Rattle.qmpd.proofs.Runs.{absent, answered, unread, wanted_memory, wrong_words}
+use Rattle.std.proofs.Common.{rules, ◌≡◌, refl, sym, Some, map, string_bytes}
+use Rattle.qmpd.specs.Words.{words_of}
+use Rattle.qmpd.proofs.Runs.{same_words, wrong_words}
 use Rattle.qmpd.proofs.offline.run_offline.Goals as goal
 
 pub returns-in_default : goal.returns-in_default
-returns-in_default g c = wrong_words _ _ (search rules) refl c.refuse_words.ensures
+returns-in_default g c = wrong_words _ _ (search rules) refl c.report.ensures.ends
 
-pub returns-in-Ok-Some : goal.returns-in-Ok-Some
-returns-in-Ok-Some g c =
-    let asked : replay_of (map string_bytes c.args.words.now) ≡ Some c.in-Some.replay = search rules in
-    answered _ _ c.in-Some.replay (Some c.in-Ok-Some.script) asked
-    (λ files e. sym c.in-Ok-Some.field-0-is ∙ c.in-Ok-Some.ensures.value files e ∙ ap (λ (n : List ℕ). text_of n files) c.script-name.ensures) (search rules) (search rules)
+pub returns-in-Check : goal.returns-in-Check
+returns-in-Check g c =
+    let asked : words_of (map string_bytes c.args.words.now) ≡ Some c.in-Some.words = search rules in
+    same_words _ _ _ (sym asked) c.check_schema.ensures
 
-pub returns-in-Ok-None : goal.returns-in-Ok-None
-returns-in-Ok-None g c =
-    let asked : replay_of (map string_bytes c.args.words.now) ≡ Some c.in-Some.replay = search rules in
-    absent _ _ c.in-Some.replay _ asked c.script-name.ensures (λ files e. sym c.in-Ok-None.field-0-is ∙ c.in-Ok-None.ensures.value files e) (search rules) c.refuse_missing.ensures
-
-pub returns-in-Err-Failed : goal.returns-in-Err-Failed
-returns-in-Err-Failed g c =
-    let asked : replay_of (map string_bytes c.args.words.now) ≡ Some c.in-Some.replay = search rules in
-    unread _ _ c.in-Some.replay _ asked c.script-name.ensures (search rules) (search rules) c.refuse_unread.ensures.line c.refuse_unread.ensures.nothing
-
-pub returns-in-Err-Memory : goal.returns-in-Err-Memory
-returns-in-Err-Memory g c = wanted_memory _ (search rules) refl refl
+pub returns-in-Replay : goal.returns-in-Replay
+returns-in-Replay g c =
+    let asked : words_of (map string_bytes c.args.words.now) ≡ Some c.in-Some.words = search rules in
+    same_words _ _ _ (sym asked) c.replay_script.ensures
