@@ -2,7 +2,7 @@ use crate::offline::run_offline;
 use qapi_load::{FileList, LibraryFile, MemoryLibrary};
 use qm_base::{CallList, NoMemory, Text};
 use qm_link::MemorySink;
-use std::alloc::Global;
+use std::alloc::{AllocError, Global};
 use std::test::Fail;
 
 mod edge;
@@ -10,6 +10,7 @@ mod grammar;
 mod lengths;
 mod lines;
 mod runs;
+mod schemas;
 
 /// What a run answers: its status and what was put.
 #[derive(Drop)]
@@ -27,7 +28,43 @@ fn calls(alloc: Global, call: u64) -> Result<CallList, NoMemory> {
     Ok(calls)
 }
 
-/// Runs words over a library with one script. The calls of these numbers fail.
+fn words_of(alloc: Global, all: &[&str]) -> Result<Vec<String>, AllocError> {
+    let mut words = Vec::new(alloc);
+    for word in all {
+        words.push(String::from_str(alloc, word)?)?;
+    }
+    Ok(words)
+}
+
+/// Files by their names and texts.
+fn files_of(alloc: Global, all: &[(&str, &str)]) -> Result<FileList, NoMemory> {
+    let mut files = FileList::new(alloc);
+    for (name, text) in all {
+        files.push(LibraryFile::new(
+            Text::of(alloc, name.as_bytes())?,
+            Text::of(alloc, text.as_bytes())?,
+        ))?;
+    }
+    Ok(files)
+}
+
+/// Runs words over a library of these files. The calls of these numbers fail.
+fn run_over(
+    alloc: Global,
+    all: &[&str],
+    files: &[(&str, &str)],
+    library_call: u64,
+    sink_call: u64,
+) -> Result<Ran, Fail> {
+    let words = words_of(alloc, all)?;
+    let files = files_of(alloc, files)?;
+    let mut library = MemoryLibrary::new(alloc, files, calls(alloc, library_call)?);
+    let mut sink = MemorySink::new(alloc, calls(alloc, sink_call)?);
+    let status = run_offline(alloc, words.as_slice(), &mut library, &mut sink);
+    Ok(Ran { status, sink })
+}
+
+/// The same over a library with one script.
 fn run(
     alloc: Global,
     all: &[&str],
@@ -35,19 +72,7 @@ fn run(
     library_call: u64,
     sink_call: u64,
 ) -> Result<Ran, Fail> {
-    let mut words = Vec::new(alloc);
-    for word in all {
-        words.push(String::from_str(alloc, word)?)?;
-    }
-    let mut files = FileList::new(alloc);
-    files.push(LibraryFile::new(
-        Text::of(alloc, b"a.script")?,
-        Text::of(alloc, script.as_bytes())?,
-    ))?;
-    let mut library = MemoryLibrary::new(alloc, files, calls(alloc, library_call)?);
-    let mut sink = MemorySink::new(alloc, calls(alloc, sink_call)?);
-    let status = run_offline(alloc, words.as_slice(), &mut library, &mut sink);
-    Ok(Ran { status, sink })
+    run_over(alloc, all, &[("a.script", script)], library_call, sink_call)
 }
 
 #[test]
