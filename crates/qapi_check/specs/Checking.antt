@@ -1,37 +1,26 @@
 -- The table of a schema's files, or its first fault (QAPI code generation guide, "Schema syntax"; the order of faults is
 -- this project's own rule).
-use Rattle.std.specs.Prelude.{◌≡◌, ◌≢◌, ℕ, List, [], ◌∷◌, ◌++◌, Option, Some, None, Result, Ok, Err}
-use Rattle.qapi_define.specs.{declared.definition.Definition.Definition, Definitions.definitions_of}
+use Rattle.std.specs.Prelude.{◌≡◌, ◌≢◌, ℕ, List, [], ◌∷◌, Option, Some, None, Result, Ok, Err}
+use Rattle.qapi_define.specs.declared.definition.Definition.{Definition}
 use Rattle.qapi_load.specs.{Causes.Failures, Causes.IsCaused, Causes.IsAnswer as IsLoaded, declared.fault.LoadFault.LoadFault, declared.fault.LoadRule.TheVariants.ReadFault, declared.source.Source.Source, Files.NamedText, Loading.sources_of}
 use Rattle.qapi_load.specs.Loading.{memory_fault as load_memory}
 use Rattle.qapi_rules.specs.{Blames.first_of, declared.fault.CheckFault.CheckFault, declared.fault.CheckRule.TheVariants.Memory}
-use Rattle.qapi_types.specs.{declared.parts.Parts.Parts, Goodness.choices_of}
-use Rattle.qapi_check.specs.{Clashes.clashes_pass, declared.loading.SchemaFault.SchemaFault}
+use Rattle.qapi_types.specs.declared.parts.Parts.{Parts}
+use Rattle.qapi_check.specs.{Passes.all_definitions, Passes.clash_fault, Passes.cycle_fault, Passes.names_fault, Passes.numbered, Passes.references_fault, declared.loading.SchemaFault.SchemaFault}
 use Rattle.qapi_check.specs.declared.loading.SchemaFault.TheVariants as schema
-use Rattle.qapi_number.specs.{PartsOf.parts_of, Prelude.prelude, Prelude.without_prelude_names}
-use Rattle.qapi_rules.specs.{NamesRules.names_pass, References.references_pass, Cycles.cycles_pass}
-
--- the names that clash along branches, over the types by their numbers
-abbrev pub first_clash : List Definition → Option CheckFault
-first_clash definitions = clashes_pass (choices_of (parts_of definitions).kinds) definitions
 
 -- the first fault, pass by pass
 abbrev pub first_fault : List Definition → Option CheckFault
-first_fault definitions = first_of (names_pass definitions ∷ references_pass definitions ∷ cycles_pass definitions ∷ first_clash definitions ∷ [])
+first_fault definitions = first_of (names_fault definitions ∷ references_fault definitions ∷ cycle_fault definitions ∷ clash_fault definitions ∷ [])
 
 -- the fault, or else the table of the definitions
 abbrev pub table_unless : Option CheckFault → List Definition → Result Parts CheckFault
 table_unless (Some fault) definitions = Err fault
-table_unless None definitions = Ok (parts_of definitions)
+table_unless None definitions = Ok (numbered definitions)
 
 -- the first fault of definitions, or their table
 abbrev pub checked : List Definition → Result Parts CheckFault
 checked definitions = table_unless (first_fault definitions) definitions
-
--- the definitions that stand before those of each schema, and those of the expressions that conditions and the former's
--- names leave
-abbrev pub all_definitions : List (List ℕ) → List Source → List Definition
-all_definitions defines sources = prelude ++ without_prelude_names (definitions_of defines sources)
 
 -- the first fault of expressions, or their table
 abbrev pub checked_sources : List (List ℕ) → List Source → Result Parts CheckFault

@@ -1,3 +1,4 @@
 pub mod Checking
 pub mod Clashes
+pub mod Passes
 pub mod Walking

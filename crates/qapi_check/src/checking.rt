@@ -1,22 +1,15 @@
 ghost use Rattle.std.specs.Prelude.{◌≡◌, ◌∷◌, [], IfOk};
 ghost use Rattle.std.specs.Option.{option_map};
 ghost use Rattle.qapi_rules.specs.Blames.{first_of, told};
-ghost use Rattle.qapi_types.specs.Goodness.{choices_of};
-ghost use Rattle.qapi_check.specs.Checking as told_of;
-ghost use Rattle.qapi_check.specs.Clashes.{clashes_pass as clashes_pass_of};
-ghost use Rattle.qapi_number.specs.Prelude.{prelude, without_prelude_names};
-ghost use Rattle.qapi_rules.specs.Cycles as cycle_rules;
-ghost use Rattle.qapi_rules.specs.NamesRules as name_rules;
-ghost use Rattle.qapi_rules.specs.References as reference_rules;
+ghost use Rattle.qapi_check.specs.Checking.{IsChecked, checked as checked_of, checked_sources as sources_checked, memory_fault, table_unless};
+ghost use Rattle.qapi_check.specs.Passes as Steps;
 
-use crate::acyclic::have_no_cycle;
-use crate::clashes::clashes_pass;
-use qapi_define::{Definition, definitions};
-use qapi_load::{Source, SourceList};
-use qapi_number::{parts, with_prelude};
-use qapi_rules::{
-    Blame, CheckFault, CheckRule, DefinitionTable, cycles_pass, names_pass, references_pass,
+use crate::passes::{
+    all_definitions, clash_fault, cycle_fault, names_fault, numbered, references_fault,
 };
+use qapi_define::Definition;
+use qapi_load::{Source, SourceList};
+use qapi_rules::{Blame, CheckFault, CheckRule, DefinitionTable};
 use qapi_types::{Kind, Names, Schema, parts_good};
 use qm_base::{NoMemory, Text};
 use std::alloc::Global;
@@ -26,17 +19,17 @@ fn first_blame<'a>(
     alloc: Global,
     definitions: &'a [Definition],
 ) -> Result<Option<Blame<'a>>, NoMemory>
-    ensures { IfOk result (λ blame. option_map told blame ≡ first_of (name_rules.names_pass definitions.now
-        ∷ reference_rules.references_pass definitions.now ∷ cycle_rules.cycles_pass definitions.now ∷ [])) }
+    ensures { IfOk result (λ blame. option_map told blame ≡ first_of (Steps.names_fault definitions.now
+        ∷ Steps.references_fault definitions.now ∷ Steps.cycle_fault definitions.now ∷ [])) }
 {
-    if let Some(blame) = names_pass(alloc, definitions)? {
+    if let Some(blame) = names_fault(alloc, definitions)? {
         return Ok(Some(blame));
     }
     let table = DefinitionTable::of(alloc, definitions)?;
-    if let Some(blame) = references_pass(&table) {
+    if let Some(blame) = references_fault(&table) {
         return Ok(Some(blame));
     }
-    cycles_pass(alloc, &table)
+    cycle_fault(alloc, &table)
 }
 
 /// The fault with texts of its own.
@@ -53,38 +46,32 @@ fn owned(alloc: Global, blame: Option<Blame>) -> Result<Option<CheckFault>, NoMe
 }
 
 fn first_early(alloc: Global, definitions: &[Definition]) -> Result<Option<CheckFault>, NoMemory>
-    ensures { IfOk result (λ fault. fault ≡ first_of (name_rules.names_pass definitions.now
-        ∷ reference_rules.references_pass definitions.now ∷ cycle_rules.cycles_pass definitions.now ∷ [])) }
+    ensures { IfOk result (λ fault. fault ≡ first_of (Steps.names_fault definitions.now
+        ∷ Steps.references_fault definitions.now ∷ Steps.cycle_fault definitions.now ∷ [])) }
 {
     let blame = first_blame(alloc, definitions)?;
     owned(alloc, blame)
 }
 
-/// The first clash along branches. Want of memory is also answered where the types' branches lead
-/// to no types or to a cycle.
 fn first_clash(
     alloc: Global,
     kinds: &[Kind],
     definitions: &[Definition],
 ) -> Result<Option<CheckFault>, NoMemory>
-    ensures { IfOk result (λ fault. fault ≡ clashes_pass_of (choices_of kinds.now) definitions.now) }
+    requires { kinds.now ≡ (Steps.numbered definitions.now).kinds }
+    ensures { IfOk result (λ fault. fault ≡ Steps.clash_fault definitions.now) }
 {
-    if !have_no_cycle(alloc, kinds)? {
-        return Err(NoMemory);
-    }
-    let blame = clashes_pass(alloc, kinds, definitions)?;
+    let blame = clash_fault(alloc, kinds, definitions)?;
     owned(alloc, blame)
 }
 
-/// The first clash, or else the sealed table.
-fn sealed(
-    alloc: Global,
-    definitions: &[Definition],
-) -> Result<Result<Schema, CheckFault>, NoMemory>
+/// The first clash, or else the sealed table. Want of memory is also answered where the table
+/// passes a count of its numbers.
+fn sealed(alloc: Global, definitions: &[Definition]) -> Result<Result<Schema, CheckFault>, NoMemory>
     ensures { IfOk result (λ answer. answer
-        ≡ told_of.table_unless (told_of.first_clash definitions.now) definitions.now) }
+        ≡ table_unless (Steps.clash_fault definitions.now) definitions.now) }
 {
-    let parts = parts(alloc, definitions)?;
+    let parts = numbered(alloc, definitions)?;
     if let Some(fault) = first_clash(alloc, parts.kinds.as_slice(), definitions)? {
         return Ok(Err(fault));
     }
@@ -100,7 +87,7 @@ fn checked(
     alloc: Global,
     definitions: &[Definition],
 ) -> Result<Result<Schema, CheckFault>, NoMemory>
-    ensures { IfOk result (λ answer. answer ≡ told_of.checked definitions.now) }
+    ensures { IfOk result (λ answer. answer ≡ checked_of definitions.now) }
 {
     if let Some(fault) = first_early(alloc, definitions)? {
         return Ok(Err(fault));
@@ -113,16 +100,15 @@ fn checked_sources(
     sources: &[Source],
     defines: &[Text],
 ) -> Result<Result<Schema, CheckFault>, NoMemory>
-    ensures { IfOk result (λ answer. answer ≡ told_of.checked_sources defines.now sources.now) }
+    ensures { IfOk result (λ answer. answer ≡ sources_checked defines.now sources.now) }
 {
-    let own = definitions(alloc, sources, defines)?;
-    let all = with_prelude(alloc, own)?;
+    let all = all_definitions(alloc, sources, defines)?;
     checked(alloc, all.as_slice())
 }
 
 /// No memory was left.
 fn memory(alloc: Global) -> CheckFault
-    ensures { result ≡ told_of.memory_fault }
+    ensures { result ≡ memory_fault }
 {
     CheckFault {
         rule: CheckRule::Memory,
@@ -138,7 +124,7 @@ pub fn check_sources(
     sources: &[Source],
     defines: &[Text],
 ) -> Result<Schema, CheckFault>
-    ensures { told_of.IsChecked result → result ≡ told_of.checked_sources defines.now sources.now }
+    ensures { IsChecked result → result ≡ sources_checked defines.now sources.now }
 {
     match checked_sources(alloc, sources, defines) {
         Ok(answer) => answer,
@@ -154,12 +140,8 @@ pub fn check_sources(
 /// - `Memory`: no memory was left, or the table passes a count of its numbers; the line is 0, and
 ///   file and name are empty.
 /// - Each other rule: the definition at this line of this file breaks it.
-pub fn check(
-    alloc: Global,
-    sources: &SourceList,
-    defines: &Names,
-) -> Result<Schema, CheckFault>
-    ensures { told_of.IsChecked result → result ≡ told_of.checked_sources defines.now sources.now }
+pub fn check(alloc: Global, sources: &SourceList, defines: &Names) -> Result<Schema, CheckFault>
+    ensures { IsChecked result → result ≡ sources_checked defines.now sources.now }
 {
     check_sources(alloc, sources.as_slice(), defines.as_slice())
 }

@@ -7,6 +7,7 @@ pub mod checking;
 pub mod choices;
 pub mod clashes;
 pub mod loading;
+mod passes;
 
 pub use acyclic::have_no_cycle;
 pub use checking::check;
