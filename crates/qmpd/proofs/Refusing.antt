@@ -6,6 +6,7 @@ use Rattle.qapi_load.specs.{Files.NamedText, Causes.Failures, Causes.IsCaused}
 use Rattle.qapi_load.specs.declared.fault.{LoadFault.LoadFault, LoadRule.LoadRule}
 use Rattle.qapi_load.specs.declared.fault.LoadRule.TheVariants as load
 use Rattle.qapi_rules.specs.declared.fault.{CheckFault.CheckFault, CheckRule.CheckRule}
+use Rattle.qapi_types.specs.declared.parts.Parts.{Parts}
 use Rattle.qapi_rules.specs.declared.fault.CheckRule.TheVariants as check
 use Rattle.qmpd.specs.{Answers.Ran, Answers.Ends, Answers.Answers, Causes.Reads, Causes.MayRead, Output.refusal_output, Refusals.load_refusal, Refusals.check_refusal, Refusals.refusal_of}
 use Rattle.qapi_check.specs.Checking.{IsAnswer, HasCause, IsUnread, SchemaFrom}
@@ -16,8 +17,8 @@ use Rattle.qmpd.proofs.Runs.{checked, unread, ended_for_memory}
 -- what the loader says of its answer
 record IsTold (ran : Ran) (w : Words) (name : List ℕ) (answer : SchemaFault) : Type 0 where
   pub given : SchemaFrom ran.files w.schema (names_defined w.define) (Err answer)
-  pub cause : HasCause (Err answer) (record { count = ran.library_before; name = name }) (record { count = ran.library_now; name = ran.failed_name })
-  pub some : IsUnread (Err answer) → IsSome w.schema
+  pub cause : HasCause {A = Parts} (Err answer) (record { count = ran.library_before; name = name }) (record { count = ran.library_now; name = ran.failed_name })
+  pub some : IsUnread {A = Parts} (Err answer) → IsSome w.schema
 
 may_read : (words : Option Words) (w : Words) (name : List ℕ) → words ≡ Some w → w.command ≡ CheckCommand → IsSome w.schema → MayRead words name
 may_read words w name asked is some =
@@ -50,8 +51,8 @@ broken_refused ran status w name fault rule is asked command told ends nothing =
 -- loading or checking the schema failed
 pub refused : (ran : Ran) (status : ℕ) (w : Words) (name : List ℕ) (fault : SchemaFault) → ran.words ≡ Some w → w.command ≡ CheckCommand →
     SchemaFrom ran.files w.schema (names_defined w.define) (Err fault) →
-    HasCause (Err fault) (record { count = ran.library_before; name = name }) (record { count = ran.library_now; name = ran.failed_name }) →
-    (IsUnread (Err fault) → IsSome w.schema) →
+    HasCause {A = Parts} (Err fault) (record { count = ran.library_before; name = name }) (record { count = ran.library_now; name = ran.failed_name }) →
+    (IsUnread {A = Parts} (Err fault) → IsSome w.schema) →
     (let output = refusal_output (refusal_of fault) in Ends output.bytes output.status ran.sink status) →
     (status ≡ 1 → ran.sink.holds ≡ ran.sink.held) → Answers ran status
 refused ran status w name (Load fault) asked command given cause some ends nothing =
