@@ -1,15 +1,13 @@
 -- The answer of a run whose schema is refused.
-use Rattle.std.proofs.Common.{◌≡◌, ◌≢◌, ℕ, List, [], ◌∷◌, ◌++◌, Option, Some, None, Result, Ok, Err, IsSome, refl, ap, sym, ◌∙◌, subst, inl}
-use Rattle.qm_base.specs.{Faults.HoldsPart, Prefixes.IsPrefix}
-use Rattle.qm_base.proofs.Prefixes.{empty_prefix}
-use Rattle.qapi_load.specs.{Files.NamedText, Causes.Failures, Causes.IsCaused}
+use Rattle.std.proofs.Common.{◌≡◌, ◌≢◌, ℕ, List, Option, Some, Err, IsSome, refl, ap, sym, ◌∙◌, subst}
+use Rattle.qapi_load.specs.{Causes.Failures}
 use Rattle.qapi_load.specs.declared.fault.{LoadFault.LoadFault, LoadRule.LoadRule}
 use Rattle.qapi_load.specs.declared.fault.LoadRule.TheVariants as load
 use Rattle.qapi_rules.specs.declared.fault.{CheckFault.CheckFault, CheckRule.CheckRule}
 use Rattle.qapi_types.specs.declared.parts.Parts.{Parts}
 use Rattle.qapi_rules.specs.declared.fault.CheckRule.TheVariants as check
 use Rattle.qmpd.specs.{Answers.Ran, Answers.Ends, Answers.Answers, Causes.Reads, Causes.MayRead, Output.refusal_output, Refusals.load_refusal, Refusals.check_refusal, Refusals.refusal_of}
-use Rattle.qapi_check.specs.Checking.{IsAnswer, HasCause, IsUnread, SchemaFrom}
+use Rattle.qapi_check.specs.Checking.{HasCause, IsUnread, SchemaFrom}
 use Rattle.qapi_check.specs.declared.loading.{SchemaFault.SchemaFault, SchemaFault.TheVariants.Load, SchemaFault.TheVariants.Check}
 use Rattle.qmpd.specs.{Words.Command, Words.Check as CheckCommand, Words.Words, Words.names_defined}
 use Rattle.qmpd.proofs.Runs.{checked, unread, ended_for_memory}

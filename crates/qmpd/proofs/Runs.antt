@@ -1,6 +1,6 @@
 -- The answer of a run from that of its part.
 use Rattle.std.proofs.Common.{◌≡◌, ◌≢◌, ℕ, ◌==◌, Bool, true, false, cond, List, [], ◌∷◌, ◌++◌, ◌⊎◌, Option, Some, None, option_map, unwrap_or, Result, Ok, Err, refl, ap, sym, ◌∙◌, subst, append-nil, inl, inr}
-use Rattle.std.specs.{Option.option_and_then, Str.bytes_eq}
+use Rattle.std.specs.{Str.bytes_eq}
 use Rattle.std.proofs.lemmas.Slice.Eq.{bytes_eq-Decides}
 use Rattle.qm_base.specs.{Faults.Rose, Faults.told_more, Faults.HoldsPart, Prefixes.IsPrefix}
 use Rattle.qm_base.proofs.Prefixes.{empty_prefix}

@@ -1,5 +1,5 @@
 -- The words of a command line (this project's own rule).
-use Rattle.std.specs.Prelude.{ℕ, ◌+◌, ◌==◌, nat_eq, nat_lt, nat_le, Bool, not, if◌then◌else◌, ◌&&◌, List, [], ◌∷◌, codes, length, take, drop, map, position, slice_index, Option, Some, None, is_some, is_none, option_map}
+use Rattle.std.specs.Prelude.{ℕ, ◌+◌, ◌==◌, nat_eq, nat_lt, nat_le, Bool, if◌then◌else◌, ◌&&◌, List, [], ◌∷◌, codes, length, take, drop, map, position, slice_index, Option, Some, None, is_some, is_none, option_map}
 use Rattle.std.specs.{List.slice_split, Option.option_and_then, Str.bytes_eq}
 use Rattle.qm_base.specs.Numerals.{number_of}
 use Rattle.qm_core.specs.declared.TheConstants.{MOST_ENTRIES}

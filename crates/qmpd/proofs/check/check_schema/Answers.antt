@@ -1,9 +1,8 @@
-use Rattle.std.proofs.Common.{rules, ◌≡◌, refl, sym, ap, subst, ◌∙◌, ℕ, List, Option, Some, None, Result, Ok, Err, IsSome}
-use Rattle.std.specs.Option.{option_copied}
+use Rattle.std.proofs.Common.{rules, ◌≡◌, refl, subst, ℕ, List, Option, Result, Ok, IsSome}
 use Rattle.qapi_load.specs.Files.{NamedText}
 use Rattle.qapi_types.specs.declared.parts.Parts.{Parts}
 use Rattle.qapi_check.specs.{Checking.SchemaFrom, declared.loading.SchemaFault.SchemaFault}
-use Rattle.qmpd.specs.{Output.ok_line, Words.names_defined}
+use Rattle.qmpd.specs.{Output.ok_line}
 use Rattle.qmpd.proofs.{Runs.checked, Runs.wanted_memory, Refusing.refused}
 use Rattle.qmpd.proofs.check.check_schema.Goals as goal
 

@@ -1,4 +1,4 @@
-use Rattle.std.proofs.Common.{rules, ◌≡◌, refl, sym, subst, ◌∙◌, Some, None}
+use Rattle.std.proofs.Common.{rules, refl, sym, subst, ◌∙◌, Some, None}
 use Rattle.qmpd.specs.{Causes.Reads, Output.missing as no_file, Words.Command}
 use Rattle.qmpd.proofs.Runs.{answered, unread, wanted_memory}
 use Rattle.qmpd.proofs.offline.replay_script.Goals as goal
