@@ -1,5 +1,5 @@
 -- Files of which an answer is that of loading, and of checking.
-use Rattle.std.proofs.Common.{◌≡◌, ◌≢◌, ℕ, List, [], Option, Some, None, Result, Ok, Err, refl, ap, sym, ◌∙◌, unwrap_or}
+use Rattle.std.proofs.Common.{◌≡◌, ◌≢◌, ℕ, List, [], Option, None, Ok, Err, ap, sym, ◌∙◌, unwrap_or}
 use Rattle.qapi_load.specs.{Files.NamedText, declared.source.Source.Source}
 use Rattle.qapi_rules.specs.declared.fault.CheckFault.{CheckFault}
 use Rattle.qapi_types.specs.declared.parts.Parts.{Parts}
