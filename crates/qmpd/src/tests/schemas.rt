@@ -2,13 +2,14 @@
 
 use super::{Ran, run_over};
 use std::alloc::Global;
+use std::process::Abort;
 use std::test::Fail;
 
 /// The text of `a.json`, the names that are defined, the status, and what is put.
 type Check = (&'static str, &'static str, u8, &'static str);
 
-/// Each schema with its answer.
-const CHECKS: &[Check] = &[
+/// Names inside definitions.
+const NAMES: &[Check] = &[
     // A schema without definitions, and one of each sort.
     ("", "W", 0, "ok 12 commands, 1 events, 6 types\n"),
     (
@@ -84,6 +85,11 @@ const CHECKS: &[Check] = &[
         0,
         "ok 12 commands, 1 events, 7 types\n",
     ),
+];
+
+/// How names are formed.
+const FORMS: &[Check] = &[
+    // Names at their limits, and names that are reserved or of a domain.
     (
         "{ 'struct': 'aaaaaaaaaaaaaaaaaaaaaaaaaaaaaaaaaaaaaaaaaaaaaaaaaaaaaaaaaaaaaaaaaaaaaaaaaaaaaaaaaaaaaaaaaaaaaaaaaaaaaaaaaaaaaaaaaaaaaaaaaaaaaaaaaaaaaaaaaaaaaaaaaaaaaaaaaaaaaaaaaaaaaaaaaaaaaaaaaaaaaaaaaaaaaaaaaaaaaaaaaaaaaaaaaaaaaaaaaaaaaaaaaaaaaaaaaaaaaaaaaaaaaaaaaaaaaaaaa', 'data': {} }",
         "W",
@@ -150,6 +156,10 @@ const CHECKS: &[Check] = &[
         3,
         "error: schema a.json line 1: bad-name ?\n",
     ),
+];
+
+/// What else a definition is judged by alone, and unknown types.
+const ALONE: &[Check] = &[
     // The rest of the first pass.
     (
         "{ 'command': 'c', 'success-response': false }",
@@ -254,6 +264,10 @@ const CHECKS: &[Check] = &[
         0,
         "ok 12 commands, 1 events, 7 types\n",
     ),
+];
+
+/// Bases, discriminators, branches and data.
+const REFERENCES: &[Check] = &[
     // Bases and discriminators.
     (
         "{ 'enum': 'E', 'data': [ 'a', 'b' ] }\n{ 'struct': 'A', 'base': 'E', 'data': {} }",
@@ -382,6 +396,10 @@ const CHECKS: &[Check] = &[
         3,
         "error: schema a.json line 1: kind-clash c\n",
     ),
+];
+
+/// Cycles, clashes along branches, and two faults.
+const ORDER: &[Check] = &[
     // Cycles of bases and branches.
     (
         "{ 'struct': 'A', 'base': 'A', 'data': {} }",
@@ -481,6 +499,10 @@ const CHECKS: &[Check] = &[
         3,
         "error: schema a.json line 2: unknown-type Foo\n",
     ),
+];
+
+/// Conditions, and what no rule refuses.
+const CONDITIONS: &[Check] = &[
     // Behind a condition that is false, and one that is true.
     (
         "{ 'struct': '1', 'data': {}, 'if': 'X' }\n{ 'struct': 'A', 'data': { '1': { 'type': 'Foo', 'if': 'X' }, 'b': { 'if': { 'not': 'X' }, 'type': 'int' } } }",
@@ -624,15 +646,45 @@ fn checked(alloc: Global, library_call: u64, sink_call: u64) -> Result<Ran, Fail
     run_over(alloc, words, MACHINE, library_call, sink_call)
 }
 
-#[test]
-fn each_schema_has_its_answer(rt: HostRuntime) -> Result<(), Fail> {
-    for (schema, defines, status, output) in CHECKS {
+/// Looks whether each schema has its answer.
+fn expect(rt: &(impl Abort + AllocGlobal), cases: &[Check]) -> Result<(), Fail> {
+    for (schema, defines, status, output) in cases {
         let words = &["check", "--schema", "a.json", "--define", *defines];
         let ran = run_over(rt.alloc(), words, &[("a.json", *schema)], 0, 0)?;
         assert!(rt; ran.sink.taken() == output.as_bytes(), "{schema}");
         assert_eq!(rt; ran.status, *status, "{schema}");
     }
     Ok(())
+}
+
+#[test]
+fn bad_names_are_told_in_order(rt: HostRuntime) -> Result<(), Fail> {
+    expect(&rt, NAMES)
+}
+
+#[test]
+fn names_are_formed_so(rt: HostRuntime) -> Result<(), Fail> {
+    expect(&rt, FORMS)
+}
+
+#[test]
+fn definitions_are_judged_alone(rt: HostRuntime) -> Result<(), Fail> {
+    expect(&rt, ALONE)
+}
+
+#[test]
+fn references_are_judged(rt: HostRuntime) -> Result<(), Fail> {
+    expect(&rt, REFERENCES)
+}
+
+#[test]
+fn cycles_and_clashes_come_last(rt: HostRuntime) -> Result<(), Fail> {
+    expect(&rt, ORDER)
+}
+
+#[test]
+fn conditions_come_first(rt: HostRuntime) -> Result<(), Fail> {
+    expect(&rt, CONDITIONS)
 }
 
 #[test]
