@@ -9,8 +9,10 @@ mod edge;
 mod grammar;
 mod lengths;
 mod lines;
+mod name_rules;
 mod runs;
 mod schemas;
+mod type_rules;
 
 /// What a run answers: its status and what was put.
 #[derive(Drop)]
