@@ -1,7 +1,42 @@
 //! Streams of bytes, the frames that they have, and where reading goes on after a fault.
 
+use crate::tables::rows;
 use qm_frame::{FrameFault, Framer, Step};
 use std::test::Fail;
+
+/// Streams, each with a line for each of its frames.
+const STREAMS: &str = r#"
+%20%09%0D%0A
+{} [1] | {}%0A[1]%0A
+}{} | unbalanced%0A{}%0A
+"x%0A{} | lex error%0A{}%0A
+{%FE}{} | lex error%0Aunbalanced%0A{}%0A
+{"a%09b"}%0A{} | lex error%0A{}%0A
+{"a\%0A{} | lex error%0A{}%0A
+[T]%0A{} | lex error%0A{}%0A
+{"execute":"quit"
+{"a%0A{} | lex error%0A{}%0A
+{ "exec%FF{"execute":"qmp_capabilities"}%0A | lex error%0A{"execute":"qmp_capabilities"}%0A
+[1E] | [1E]%0A
+[E]%0A | lex error%0A
+[+1]%0A | lex error%0A
+{'}"'} | {'}"'}%0A
+["\"]"] | ["\"]"]%0A
+[}{] | [}%0A{]%0A
+7 {}%0A[] | lex error%0A[]%0A
+[-2.5e+3,true]%0A{'a':[{}],"b":"\u0041"} | [-2.5e+3,true]%0A{'a':[{}],"b":"\u0041"}%0A
+[1,+2]%0A[2] | lex error%0A[2]%0A
+[1+,2E-]{} | [1+,2E-]%0A{}%0A
+[nullnull1true]%00[] | [nullnull1true]%0Alex error%0A[]%0A
+[1a2b]{} | [1a2b]%0A{}%0A
+["\\"]["\""] | ["\\"]%0A["\""]%0A
+['\\']['] | ['\\']%0A
+{[}][{]} | {[}]%0A[{]}%0A
+[%09%0D%0A ]%09[%0B][] | [%09%0D%0A ]%0Alex error%0Aunbalanced%0A[]%0A
+nul{}%0A{}x}%0A] | lex error%0A{}%0Alex error%0Aunbalanced%0A
+["%C3%A9%7F"][%C3]%0A{} | ["%C3%A9%7F"]%0Alex error%0A{}%0A
+[1:2,,3}%FE%FF[ | [1:2,,3}%0Alex error%0Alex error%0A
+"#;
 
 fn name_of(fault: FrameFault) -> &'static str {
     match fault {
@@ -29,57 +64,12 @@ fn frames(rt: &impl AllocGlobal, bytes: &[u8]) -> Result<Vec<u8>, Fail> {
 
 #[test]
 fn streams_have_their_frames(rt: HostRuntime) -> Result<(), Fail> {
-    let cases: [(&[u8], &[u8]); 31] = [
-        (b"", b""),
-        (b" \t\r\n", b""),
-        (b"{} [1]", b"{}\n[1]\n"),
-        (b"}{}", b"unbalanced\n{}\n"),
-        (b"\"x\n{}", b"lex error\n{}\n"),
-        (b"{\xFE}{}", b"lex error\nunbalanced\n{}\n"),
-        (b"{\"a\tb\"}\n{}", b"lex error\n{}\n"),
-        (b"{\"a\\\n{}", b"lex error\n{}\n"),
-        (b"[T]\n{}", b"lex error\n{}\n"),
-        (b"{\"execute\":\"quit\"", b""),
-        (b"{\"a\n{}", b"lex error\n{}\n"),
-        (
-            b"{ \"exec\xFF{\"execute\":\"qmp_capabilities\"}\n",
-            b"lex error\n{\"execute\":\"qmp_capabilities\"}\n",
-        ),
-        (b"[1E]", b"[1E]\n"),
-        (b"[E]\n", b"lex error\n"),
-        (b"[+1]\n", b"lex error\n"),
-        (b"{'}\"'}", b"{'}\"'}\n"),
-        (b"[\"\\\"]\"]", b"[\"\\\"]\"]\n"),
-        (b"[}{]", b"[}\n{]\n"),
-        (b"7 {}\n[]", b"lex error\n[]\n"),
-        (
-            b"[-2.5e+3,true]\n{'a':[{}],\"b\":\"\\u0041\"}",
-            b"[-2.5e+3,true]\n{'a':[{}],\"b\":\"\\u0041\"}\n",
-        ),
-        (b"[1,+2]\n[2]", b"lex error\n[2]\n"),
-        (b"[1+,2E-]{}", b"[1+,2E-]\n{}\n"),
-        (
-            b"[nullnull1true]\x00[]",
-            b"[nullnull1true]\nlex error\n[]\n",
-        ),
-        (b"[1a2b]{}", b"[1a2b]\n{}\n"),
-        (b"[\"\\\\\"][\"\\\"\"]", b"[\"\\\\\"]\n[\"\\\"\"]\n"),
-        (b"['\\\\'][']", b"['\\\\']\n"),
-        (b"{[}][{]}", b"{[}]\n[{]}\n"),
-        (
-            b"[\t\r\n ]\t[\x0B][]",
-            b"[\t\r\n ]\nlex error\nunbalanced\n[]\n",
-        ),
-        (b"nul{}\n{}x}\n]", b"lex error\n{}\nlex error\nunbalanced\n"),
-        (
-            b"[\"\xC3\xA9\x7F\"][\xC3]\n{}",
-            b"[\"\xC3\xA9\x7F\"]\nlex error\n{}\n",
-        ),
-        (b"[1:2,,3}\xFE\xFF[", b"[1:2,,3}\nlex error\nlex error\n"),
-    ];
-    for (bytes, lines) in cases {
-        assert_eq!(rt; frames(&rt, bytes)?.as_slice(), lines);
+    let rows = rows(&rt, STREAMS)?;
+    for row in &rows {
+        let lines = frames(&rt, row.case.as_slice())?;
+        assert_eq!(rt; lines.as_slice(), row.told.as_slice(), "{}", row.line);
     }
+    assert_eq!(rt; rows.len(), 31);
     Ok(())
 }
 

@@ -13,3 +13,5 @@ mod reading;
 mod reading_faults;
 #[cfg(test)]
 mod sinks;
+#[cfg(test)]
+mod tables;

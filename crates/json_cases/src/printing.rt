@@ -1,61 +1,73 @@
 //! Printed texts, with escapes as in RFC 8259, section 7, the greeting, and each call once.
 
+use crate::reading::printed;
+use crate::tables::rows;
 use qm_base::Text;
 use qm_caps::{Mode, bound, greeting, version};
 use qm_json::{Json, MemberFault, Members, has_member};
 use sqlite_items::Items;
+use std::alloc::Global;
 use std::process::Abort;
 use std::test::Fail;
 
-fn expect(rt: &(impl Abort + AllocGlobal), value: &Json, text: &str) -> Result<(), Fail> {
-    let mut out = Text::new(rt.alloc());
-    value.write_text(&mut out)?;
-    assert_eq!(rt; out.as_slice(), text.as_bytes(), "{text}");
-    assert_eq!(rt; value.written_length(), text.len() as u64, "{text}");
+/// The bytes of strings and their texts.
+const STRINGS: &str = r#" | ""
+query-version | "query-version"
+a"b\c/d' | "a\"b\\c/d'"
+%08%0C%0A%0D%09 | "\b\f\n\r\t"
+%00%1F | "\u0000\u001F"
+~%7F | "~\u007F"
+%C3%A9 | "\u00E9"
+%EF%BF%BF | "\uFFFF"
+%F0%90%80%80 | "\uD800\uDC00"
+%F0%9D%84%9E | "\uD834\uDD1E"
+%F0%9F%98%80 | "\uD83D\uDE00"
+%F4%8F%BF%BF | "\uDBFF\uDFFF"
+a%FFb | "a\uFFFDb"
+%E2%82 | "\uFFFD"
+"#;
+
+fn has_length(value: &Json, length: usize) -> bool {
+    value.written_length() == length as u64
+}
+
+/// Asserts that a value is printed as this text.
+fn expect(rt: &(impl Abort + AllocGlobal), value: &Json, text: &[u8]) -> Result<(), Fail> {
+    let out = printed(rt, value)?;
+    assert_eq!(rt; out.as_slice(), text);
+    assert!(rt; has_length(value, text.len()));
     Ok(())
 }
 
 #[test]
 fn strings_print_with_escapes(rt: HostRuntime) -> Result<(), Fail> {
-    let cases: [(&[u8], &str); 14] = [
-        (b"", "\"\""),
-        (b"query-version", "\"query-version\""),
-        (b"a\"b\\c/d'", "\"a\\\"b\\\\c/d'\""),
-        (b"\x08\x0C\n\r\t", "\"\\b\\f\\n\\r\\t\""),
-        (b"\x00\x1F", "\"\\u0000\\u001F\""),
-        (b"\x7E\x7F", "\"~\\u007F\""),
-        ("\u{E9}".as_bytes(), "\"\\u00E9\""),
-        ("\u{FFFF}".as_bytes(), "\"\\uFFFF\""),
-        ("\u{10000}".as_bytes(), "\"\\uD800\\uDC00\""),
-        ("\u{1D11E}".as_bytes(), "\"\\uD834\\uDD1E\""),
-        ("\u{1F600}".as_bytes(), "\"\\uD83D\\uDE00\""),
-        ("\u{10FFFF}".as_bytes(), "\"\\uDBFF\\uDFFF\""),
-        (b"a\xFFb", "\"a\\uFFFDb\""),
-        (b"\xE2\x82", "\"\\uFFFD\""),
-    ];
-    for (bytes, text) in cases {
-        expect(&rt, &Json::string(rt.alloc(), bytes)?, text)?;
+    let rows = rows(&rt, STRINGS)?;
+    for row in &rows {
+        let value = Json::string(rt.alloc(), row.case.as_slice())?;
+        expect(&rt, &value, row.told.as_slice())?;
     }
+    assert_eq!(rt; rows.len(), 14);
     Ok(())
 }
 
 #[test]
-fn numbers_and_literals_print(rt: HostRuntime) -> Result<(), Fail> {
-    let cases = [
-        (Json::Null, "null"),
-        (Json::Bool(true), "true"),
-        (Json::Bool(false), "false"),
-        (Json::Int(0), "0"),
-        (Json::Int(-9223372036854775808), "-9223372036854775808"),
-        (Json::Int(18446744073709551615), "18446744073709551615"),
-        (Json::Num(Text::of(rt.alloc(), b"-1.50E+2")?), "-1.50E+2"),
-        (Json::Arr(Items::new(rt.alloc())), "[]"),
-        (Members::new(rt.alloc()).into_json(), "{}"),
-    ];
-    for (value, text) in &cases {
-        expect(&rt, value, text)?;
-    }
-    Ok(())
+fn literals_print(rt: HostRuntime) -> Result<(), Fail> {
+    expect(&rt, &Json::Null, b"null")?;
+    expect(&rt, &Json::Bool(true), b"true")?;
+    expect(&rt, &Json::Bool(false), b"false")?;
+    expect(&rt, &Json::Arr(Items::new(rt.alloc())), b"[]")?;
+    expect(&rt, &Members::new(rt.alloc()).into_json(), b"{}")
+}
+
+#[test]
+fn numbers_print(rt: HostRuntime) -> Result<(), Fail> {
+    let least = b"-9223372036854775808";
+    let greatest = b"18446744073709551615";
+    expect(&rt, &Json::Int(0), b"0")?;
+    expect(&rt, &Json::Int(-9223372036854775808), least)?;
+    expect(&rt, &Json::Int(18446744073709551615), greatest)?;
+    let number = Text::of(rt.alloc(), b"-1.50E+2")?;
+    expect(&rt, &Json::Num(number), b"-1.50E+2")
 }
 
 const GREETING: &str =
@@ -67,10 +79,10 @@ const VERSION: &str =
 #[test]
 fn a_greeting_is_printed_and_copied(rt: HostRuntime) -> Result<(), Fail> {
     let value = greeting(rt.alloc())?;
-    expect(&rt, &value, GREETING)?;
-    expect(&rt, &version(rt.alloc())?, VERSION)?;
+    expect(&rt, &value, GREETING.as_bytes())?;
+    expect(&rt, &version(rt.alloc())?, VERSION.as_bytes())?;
     let copied = value.copy(rt.alloc())?;
-    expect(&rt, &copied, GREETING)?;
+    expect(&rt, &copied, GREETING.as_bytes())?;
     assert!(rt; copied.same(&value));
     assert!(rt; !copied.same(&Json::Null));
     match value.member(b"QMP") {
@@ -91,15 +103,29 @@ fn modes_have_bounds(rt: HostRuntime) -> Result<(), Fail> {
     Ok(())
 }
 
+/// Pushes a member of this name and number.
+fn push(
+    alloc: Global,
+    members: &mut Members,
+    name: &[u8],
+    number: i128,
+) -> Result<Result<(), MemberFault>, Fail> {
+    let name = Text::of(alloc, name)?;
+    Ok(members.push(name, Json::Int(number)))
+}
+
+/// Whether there is a member of the one name and none of the other.
+fn has_one(members: &Members, name: &[u8], other: &[u8]) -> bool {
+    has_member(members.as_slice(), name) && !has_member(members.as_slice(), other)
+}
+
 #[test]
 fn a_name_is_taken_once(rt: HostRuntime) -> Result<(), Fail> {
     let mut members = Members::new(rt.alloc());
-    members.push(Text::of(rt.alloc(), b"id")?, Json::Int(1))?;
-    let again = members.push(Text::of(rt.alloc(), b"id")?, Json::Int(2));
+    assert!(rt; push(rt.alloc(), &mut members, b"id", 1)? == Ok(()));
+    let again = push(rt.alloc(), &mut members, b"id", 2)?;
     assert!(rt; again == Err(MemberFault::Twice));
-    members.push(Text::of(rt.alloc(), b"ID")?, Json::Int(3))?;
-    assert!(rt; has_member(members.as_slice(), b"ID"));
-    assert!(rt; !has_member(members.as_slice(), b"Id"));
-    expect(&rt, &members.into_json(), "{\"id\": 1, \"ID\": 3}")?;
-    Ok(())
+    assert!(rt; push(rt.alloc(), &mut members, b"ID", 3)? == Ok(()));
+    assert!(rt; has_one(&members, b"ID", b"Id"));
+    expect(&rt, &members.into_json(), b"{\"id\": 1, \"ID\": 3}")
 }

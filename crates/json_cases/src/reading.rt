@@ -1,6 +1,7 @@
 //! Texts that are read, with their values as they are printed; the pair of surrogates is that of
 //! RFC 8259, section 7.
 
+use crate::tables::rows;
 use qm_base::Text;
 use qm_frame::{MAX_DEPTH, MAX_LENGTH};
 use qm_json::Json;
@@ -8,74 +9,66 @@ use qm_read::{JsonFault, Taken, read};
 use std::process::Abort;
 use std::test::Fail;
 
-/// The printed value of a text, or its first fault.
-fn printed(rt: &impl AllocGlobal, answer: Result<Json, JsonFault>) -> Result<Text, Fail> {
+/// Texts and their values as they are printed.
+const VALUES: &str = r#"{"execute":"query-version"} | {"execute": "query-version"}
+{'execute':'quit','id':7} | {"execute": "quit", "id": 7}
+%20%09%0D%0A[ ] %0A | []
+[null,true , false] | [null, true, false]
+{"a":{"b":[{}]}} | {"a": {"b": [{}]}}
+{"execute":"nope","id":{"a":[1.50]}} | {"execute": "nope", "id": {"a": [1.50]}}
+1.50 | 1.50
+[-0, 0, -7, 1e2, -0.0] | [0, 0, -7, 1e2, -0.0]
+-9223372036854775808 | -9223372036854775808
+18446744073709551615 | 18446744073709551615
+18446744073709551616 | 18446744073709551616
+"%C3%A9" | "\u00E9"
+'\u00e9' | "\u00E9"
+"\uD834\uDD1E" | "\uD834\uDD1E"
+"%F0%9D%84%9E%EF%BF%BE" | "\uD834\uDD1E\uFFFE"
+"\"\'\\\/\b\f\n\r\t\u0000" | "\"'\\/\b\f\n\r\t\u0000"
+'"' | "\""
+"'" | "'"
+"" | ""
+{"":1," ":2} | {"": 1, " ": 2}
+"%7F" | "\u007F"
+{'a':0,'b':0,'c':0,'d':0,'e':0,'f':0,'g':0,'h':0,'i':0,'j':{'a':0}} | {"a": 0, "b": 0, "c": 0, "d": 0, "e": 0, "f": 0, "g": 0, "h": 0, "i": 0, "j": {"a": 0}}
+'one\ttwo %C3%A9"three' | "one\ttwo \u00E9\"three"
+"#;
+
+/// The text of a value.
+pub(crate) fn printed(rt: &impl AllocGlobal, value: &Json) -> Result<Text, Fail> {
     let mut out = Text::new(rt.alloc());
-    match answer {
-        Ok(value) => value.write_text(&mut out)?,
-        Err(fault) => out.extend(format!(in rt.alloc(); "{fault:?}")?.as_bytes())?,
-    }
+    value.write_text(&mut out)?;
     Ok(out)
 }
 
-/// Asserts that a text is read as what is told.
-pub fn expect(rt: &(impl Abort + AllocGlobal), text: &[u8], told: &str) -> Result<(), Fail> {
-    let answer = printed(rt, read(rt.alloc(), text))?;
-    assert_eq!(rt; answer.as_slice(), told.as_bytes(), "{told}");
-    Ok(())
+/// The name and the place of a fault.
+fn told(rt: &impl AllocGlobal, fault: JsonFault) -> Result<Text, Fail> {
+    let name = format!(in rt.alloc(); "{fault:?}")?;
+    Ok(Text::of(rt.alloc(), name.as_bytes())?)
+}
+
+/// The printed value of a text, or its first fault.
+fn answer(rt: &impl AllocGlobal, text: &[u8]) -> Result<Text, Fail> {
+    match read(rt.alloc(), text) {
+        Ok(value) => printed(rt, &value),
+        Err(fault) => told(rt, fault),
+    }
+}
+
+/// Asserts that the text of each row is read as what the row tells, and counts the rows.
+pub(crate) fn expect_rows(rt: &(impl Abort + AllocGlobal), table: &str) -> Result<usize, Fail> {
+    let rows = rows(rt, table)?;
+    for row in &rows {
+        let answer = answer(rt, row.case.as_slice())?;
+        assert_eq!(rt; answer.as_slice(), row.told.as_slice(), "{}", row.line);
+    }
+    Ok(rows.len())
 }
 
 #[test]
 fn values_are_read(rt: HostRuntime) -> Result<(), Fail> {
-    let cases: [(&[u8], &str); 23] = [
-        (
-            b"{\"execute\":\"query-version\"}",
-            "{\"execute\": \"query-version\"}",
-        ),
-        (
-            b"{'execute':'quit','id':7}",
-            "{\"execute\": \"quit\", \"id\": 7}",
-        ),
-        (b" \t\r\n[ ] \n", "[]"),
-        (b"[null,true , false]", "[null, true, false]"),
-        (b"{\"a\":{\"b\":[{}]}}", "{\"a\": {\"b\": [{}]}}"),
-        (
-            b"{\"execute\":\"nope\",\"id\":{\"a\":[1.50]}}",
-            "{\"execute\": \"nope\", \"id\": {\"a\": [1.50]}}",
-        ),
-        (b"1.50", "1.50"),
-        (b"[-0, 0, -7, 1e2, -0.0]", "[0, 0, -7, 1e2, -0.0]"),
-        (b"-9223372036854775808", "-9223372036854775808"),
-        (b"18446744073709551615", "18446744073709551615"),
-        (b"18446744073709551616", "18446744073709551616"),
-        ("\"\u{E9}\"".as_bytes(), "\"\\u00E9\""),
-        (b"'\\u00e9'", "\"\\u00E9\""),
-        (b"\"\\uD834\\uDD1E\"", "\"\\uD834\\uDD1E\""),
-        (
-            "\"\u{1D11E}\u{FFFE}\"".as_bytes(),
-            "\"\\uD834\\uDD1E\\uFFFE\"",
-        ),
-        (
-            b"\"\\\"\\'\\\\\\/\\b\\f\\n\\r\\t\\u0000\"",
-            "\"\\\"'\\\\/\\b\\f\\n\\r\\t\\u0000\"",
-        ),
-        (b"'\"'", "\"\\\"\""),
-        (b"\"'\"", "\"'\""),
-        (b"\"\"", "\"\""),
-        (b"{\"\":1,\" \":2}", "{\"\": 1, \" \": 2}"),
-        (b"\"\x7F\"", "\"\\u007F\""),
-        (
-            b"{'a':0,'b':0,'c':0,'d':0,'e':0,'f':0,'g':0,'h':0,'i':0,'j':{'a':0}}",
-            "{\"a\": 0, \"b\": 0, \"c\": 0, \"d\": 0, \"e\": 0, \"f\": 0, \"g\": 0, \"h\": 0, \"i\": 0, \"j\": {\"a\": 0}}",
-        ),
-        (
-            "'one\\ttwo \u{E9}\"three'".as_bytes(),
-            "\"one\\ttwo \\u00E9\\\"three\"",
-        ),
-    ];
-    for (text, told) in cases {
-        expect(&rt, text, told)?;
-    }
+    assert_eq!(rt; expect_rows(&rt, VALUES)?, 23);
     Ok(())
 }
 
@@ -91,7 +84,9 @@ fn nesting_has_its_limit(rt: HostRuntime) -> Result<(), Fail> {
     assert!(rt; read(rt.alloc(), text.as_slice()).is_ok());
     text.insert(0, b'[')?;
     text.push(b']')?;
-    expect(&rt, text.as_slice(), "Expected(128)")
+    let answer = answer(&rt, text.as_slice())?;
+    assert_eq!(rt; answer.as_slice(), b"Expected(128)".as_slice());
+    Ok(())
 }
 
 #[test]
@@ -105,7 +100,7 @@ fn requests_of_the_greatest_length_are_read(rt: HostRuntime) -> Result<(), Fail>
     text.extend_from_slice(b"\"}")?;
     told.extend_from_slice(b"\"}")?;
     assert_eq!(rt; text.len(), MAX_LENGTH);
-    let answer = printed(&rt, read(rt.alloc(), text.as_slice()))?;
+    let answer = answer(&rt, text.as_slice())?;
     assert!(rt; answer.as_slice() == told.as_slice());
     Ok(())
 }

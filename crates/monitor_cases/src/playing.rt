@@ -1,25 +1,55 @@
-//! What the cases share: inputs of a text, and requests that are answered at once.
+//! What the cases share: a session that is opened, inputs, requests that are answered at once, and
+//! lines that are handed out.
 
-ghost use Rattle.std.specs.Prelude.{IfOk};
+ghost use Rattle.std.specs.Prelude.{◌≤◌, IfOk};
 ghost use Rattle.qm_core.specs.Inputs.{IsCleanInput};
+ghost use Rattle.qm_core.specs.declared.TheConstants.{MOST_ENTRIES, MOST_TEXT};
 
 use qm_base::Shared;
-use qm_core::{Input, LineList, Monitor, Offer};
+use qm_core::{Input, Limits, LineList, Monitor, Offer};
 use qm_read::read;
 use std::alloc::Global;
-use std::process::Abort;
 use std::test::Fail;
+
+/// The request that ends the negotiation.
+pub(crate) const NEGOTIATION: &str = r#"{"execute": "qmp_capabilities"}"#;
 
 /// The greeting, as it is printed.
 pub(crate) const GREETING: &str =
-    "{\"QMP\": {\"version\": {\"qemu\": {\"micro\": 0, \"minor\": 0, \"major\": 1}, \"package\": \"qmpd\"}, \"capabilities\": [\"oob\"]}}";
+    r#"{"QMP": {"version": {"qemu": {"micro": 0, "minor": 0, "major": 1}, "package": "qmpd"}, "capabilities": ["oob"]}}"#;
+
+/// A monitor with these limits, and its session that was opened.
+pub(crate) fn opened(alloc: Global, limits: Limits) -> Result<(Monitor, u32), Fail>
+    requires some { 1 ≤ limits.entries }
+    requires few { limits.entries ≤ MOST_ENTRIES }
+    requires short { limits.text ≤ MOST_TEXT }
+{
+    let mut monitor = Monitor::new(alloc, limits)?;
+    let session = monitor.open(alloc)?;
+    Ok((monitor, session))
+}
 
 /// The input of a text.
-pub(crate) fn input(alloc: Global, text: &str) -> Result<Input, Fail>
+pub(crate) fn input(alloc: Global, text: &[u8]) -> Result<Input, Fail>
     ensures { IfOk result IsCleanInput }
 {
-    let value = read(alloc, text.as_bytes())?;
+    let value = read(alloc, text)?;
     Ok(Input::Doc(Shared::new(alloc, value)?))
+}
+
+/// Admits an input of the first session.
+pub(crate) fn admit(alloc: Global, monitor: &mut Monitor, input: Input) -> Result<(), Fail>
+    requires { IsCleanInput input }
+{
+    let mut offer = Offer::of(alloc, input)?;
+    monitor.admit(1, &mut offer)?;
+    Ok(())
+}
+
+fn start_and_finish(alloc: Global, monitor: &mut Monitor, moment: u64) -> Result<(), Fail> {
+    let started = monitor.start()?;
+    monitor.finish(alloc, started.session, started.number, moment)?;
+    Ok(())
 }
 
 /// Admits an input of the first session, starts it, and finishes it at a moment.
@@ -31,17 +61,29 @@ pub(crate) fn answer(
 ) -> Result<(), Fail>
     requires { IsCleanInput input }
 {
-    let mut offer = Offer::of(alloc, input)?;
-    monitor.admit(1, &mut offer)?;
-    let started = monitor.start()?;
-    monitor.finish(alloc, started.session, started.number, moment)?;
-    Ok(())
+    admit(alloc, monitor, input)?;
+    start_and_finish(alloc, monitor, moment)
 }
 
-/// Looks whether these are the lines.
-pub(crate) fn expect(rt: &impl Abort, lines: &LineList, texts: &[&str]) {
-    assert_eq!(rt; lines.len(), texts.len());
-    for (line, text) in lines.as_slice().iter().zip(texts) {
-        assert_eq!(rt; line.get().as_slice(), text.as_bytes(), "{text}");
+/// Answers the request of a text.
+pub(crate) fn answer_text(
+    alloc: Global,
+    monitor: &mut Monitor,
+    text: &[u8],
+    moment: u64,
+) -> Result<(), Fail> {
+    answer(alloc, monitor, input(alloc, text)?, moment)
+}
+
+/// The lines of a session that are handed out.
+pub(crate) fn taken(monitor: &mut Monitor, session: u32) -> Result<LineList, Fail> {
+    Ok(monitor.take(session)?)
+}
+
+/// The text of the line at this place, from 0 on, or nothing.
+pub(crate) fn line_at(lines: &LineList, place: usize) -> &[u8] {
+    match lines.as_slice().get(place) {
+        Some(line) => line.get().as_slice(),
+        None => b"",
     }
 }

@@ -2,110 +2,79 @@
 
 ghost use Rattle.qm_core.specs.Inputs.{IsCleanInput};
 
-use crate::playing::{answer, expect, input};
+use crate::playing::{NEGOTIATION, answer, answer_text, input, line_at, opened, taken};
 use qm_core::{BadInput, FrameWord, Input, JsonWord, Limits, Monitor};
+use std::alloc::Global;
 use std::process::Abort;
 use std::test::Fail;
 
-const NEGOTIATION: &str = "{\"execute\": \"qmp_capabilities\"}";
+/// Rows of whether it is before the negotiation or after it, a request and its reply.
+const REPLIES: &str = r#"before | {"execute": "qmp_capabilities"} | {"return": {}}
+after | {"execute": "query-version", "id": 7} | {"return": {"qemu": {"micro": 0, "minor": 0, "major": 1}, "package": "qmpd"}, "id": 7}
+before | {"execute": "query-version"} | {"error": {"class": "CommandNotFound", "desc": "Expecting capabilities negotiation with 'qmp_capabilities'"}}
+after | {"execute": "qmp_capabilities"} | {"error": {"class": "CommandNotFound", "desc": "Capabilities negotiation is already complete, command ignored"}}
+after | {"execute": "nope", "id": {"a": null}} | {"error": {"class": "CommandNotFound", "desc": "The command nope has not been found"}, "id": {"a": null}}
+after | {"exec-oob": "ping", "id": 1} | {"error": {"class": "GenericError", "desc": "QMP input member 'exec-oob' is unexpected"}, "id": 1}
+before | {"id": "x"} | {"error": {"class": "GenericError", "desc": "QMP input lacks member 'execute'"}, "id": "x"}
+after | {"execute": 1} | {"error": {"class": "GenericError", "desc": "QMP input member 'execute' must be a string"}}
+after | {"execute": "query-version", "arguments": ""} | {"error": {"class": "GenericError", "desc": "QMP input member 'arguments' must be an object"}}
+after | {"execute": "query-version", "arguments": {"a": null}} | {"error": {"class": "GenericError", "desc": "Parameter 'a' is unexpected"}}
+after | [] | {"error": {"class": "GenericError", "desc": "QMP input must be a JSON object"}}
+"#;
 
-fn reply(
-    rt: &(impl Abort + AllocGlobal),
-    negotiated: bool,
-    input_of: Input,
-    line: &str,
-) -> Result<(), Fail>
-    requires { IsCleanInput input_of }
-{
-    let alloc = rt.alloc();
+/// A monitor before or after the negotiation, whose lines were taken, and its session.
+fn greeted(alloc: Global, negotiated: bool) -> Result<(Monitor, u32), Fail> {
     let limits = Limits {
         entries: 10,
         text: 10_000,
     };
-    let mut monitor = Monitor::new(alloc, limits)?;
-    let session = monitor.open(alloc)?;
+    let (mut monitor, session) = opened(alloc, limits)?;
     if negotiated {
-        answer(alloc, &mut monitor, input(alloc, NEGOTIATION)?, 0)?;
+        answer_text(alloc, &mut monitor, NEGOTIATION.as_bytes(), 0)?;
     }
-    monitor.take(session)?;
-    answer(alloc, &mut monitor, input_of, 0)?;
-    expect(rt, &monitor.take(session)?, &[line]);
+    taken(&mut monitor, session)?;
+    Ok((monitor, session))
+}
+
+fn reply(
+    rt: &(impl Abort + AllocGlobal),
+    negotiated: bool,
+    input: Input,
+    line: &str,
+) -> Result<(), Fail>
+    requires { IsCleanInput input }
+{
+    let (mut monitor, session) = greeted(rt.alloc(), negotiated)?;
+    answer(rt.alloc(), &mut monitor, input, 0)?;
+    let lines = taken(&mut monitor, session)?;
+    assert_eq!(rt; lines.len(), 1);
+    assert_eq!(rt; line_at(&lines, 0), line.as_bytes());
     Ok(())
+}
+
+fn expect_row(rt: &(impl Abort + AllocGlobal), row: &str) -> Result<(), Fail> {
+    let (when, later) = row.split_once(" | ").unwrap_or(("", row));
+    let (text, line) = later.split_once(" | ").unwrap_or((later, ""));
+    let input = input(rt.alloc(), text.as_bytes())?;
+    reply(rt, when == "after", input, line)
 }
 
 #[test]
 fn values_are_answered(rt: HostRuntime) -> Result<(), Fail> {
-    let cases = [
-        (false, NEGOTIATION, "{\"return\": {}}"),
-        (
-            true,
-            "{\"execute\": \"query-version\", \"id\": 7}",
-            "{\"return\": {\"qemu\": {\"micro\": 0, \"minor\": 0, \"major\": 1}, \"package\": \"qmpd\"}, \"id\": 7}",
-        ),
-        (
-            false,
-            "{\"execute\": \"query-version\"}",
-            "{\"error\": {\"class\": \"CommandNotFound\", \"desc\": \"Expecting capabilities negotiation with 'qmp_capabilities'\"}}",
-        ),
-        (
-            true,
-            NEGOTIATION,
-            "{\"error\": {\"class\": \"CommandNotFound\", \"desc\": \"Capabilities negotiation is already complete, command ignored\"}}",
-        ),
-        (
-            true,
-            "{\"execute\": \"nope\", \"id\": {\"a\": null}}",
-            "{\"error\": {\"class\": \"CommandNotFound\", \"desc\": \"The command nope has not been found\"}, \"id\": {\"a\": null}}",
-        ),
-        (
-            true,
-            "{\"exec-oob\": \"ping\", \"id\": 1}",
-            "{\"error\": {\"class\": \"GenericError\", \"desc\": \"QMP input member 'exec-oob' is unexpected\"}, \"id\": 1}",
-        ),
-        (
-            false,
-            "{\"id\": \"x\"}",
-            "{\"error\": {\"class\": \"GenericError\", \"desc\": \"QMP input lacks member 'execute'\"}, \"id\": \"x\"}",
-        ),
-        (
-            true,
-            "{\"execute\": 1}",
-            "{\"error\": {\"class\": \"GenericError\", \"desc\": \"QMP input member 'execute' must be a string\"}}",
-        ),
-        (
-            true,
-            "{\"execute\": \"query-version\", \"arguments\": \"\"}",
-            "{\"error\": {\"class\": \"GenericError\", \"desc\": \"QMP input member 'arguments' must be an object\"}}",
-        ),
-        (
-            true,
-            "{\"execute\": \"query-version\", \"arguments\": {\"a\": null}}",
-            "{\"error\": {\"class\": \"GenericError\", \"desc\": \"Parameter 'a' is unexpected\"}}",
-        ),
-        (
-            true,
-            "[]",
-            "{\"error\": {\"class\": \"GenericError\", \"desc\": \"QMP input must be a JSON object\"}}",
-        ),
-    ];
-    for (negotiated, text, line) in cases {
-        reply(&rt, negotiated, input(rt.alloc(), text)?, line)?;
+    for row in REPLIES.lines() {
+        expect_row(&rt, row)?;
     }
+    assert_eq!(rt; REPLIES.lines().count(), 11);
     Ok(())
 }
 
 #[test]
 fn bad_inputs_are_answered(rt: HostRuntime) -> Result<(), Fail> {
-    reply(
-        &rt,
-        true,
-        Input::Bad(BadInput::Json(JsonWord::Expected(12))),
-        "{\"error\": {\"class\": \"GenericError\", \"desc\": \"Invalid JSON: syntax error at byte 12\"}}",
-    )?;
-    reply(
-        &rt,
-        false,
-        Input::Bad(BadInput::Frame(FrameWord::LexError)),
-        "{\"error\": {\"class\": \"GenericError\", \"desc\": \"Invalid JSON: lexical error\"}}",
-    )
+    let text = Input::Bad(BadInput::Json(JsonWord::Expected(12)));
+    let told =
+        r#"{"error": {"class": "GenericError", "desc": "Invalid JSON: syntax error at byte 12"}}"#;
+    reply(&rt, true, text, told)?;
+    let frame = Input::Bad(BadInput::Frame(FrameWord::LexError));
+    let told = r#"{"error": {"class": "GenericError", "desc": "Invalid JSON: lexical error"}}"#;
+    reply(&rt, false, frame, told)
 }

@@ -1,14 +1,26 @@
 //! One session from its opening to its end.
 
-ghost use Rattle.std.specs.Prelude.{IfOk};
-ghost use Rattle.qm_core.specs.Inputs.{IsCleanInput};
-
-use crate::playing::{GREETING, answer, expect, input};
-use qm_base::{Shared, Text};
-use qm_core::{Cause, Input, Limits, MOST_TEXT, Monitor, StepFault};
-use qm_read::read;
+use crate::playing::{GREETING, answer_text, line_at, opened, taken};
+use qm_base::Text;
+use qm_core::{Cause, Limits, MOST_TEXT, Monitor, StepFault};
 use std::alloc::Global;
 use std::test::Fail;
+
+/// Whether nothing runs, and one input of the session was admitted.
+fn has_answered_one(monitor: &Monitor, session: u32) -> bool {
+    monitor.running() == None && monitor.is_known(session) && monitor.admitted(session) == 1
+}
+
+fn end_and_drop(monitor: &mut Monitor, session: u32) -> Result<(), Fail> {
+    monitor.end(session)?;
+    monitor.drop_session(session, Cause::Ended)?;
+    Ok(())
+}
+
+/// Whether the session is closed, and the journal has so many entries.
+fn is_closed_after(monitor: &Monitor, session: u32, entries: usize) -> bool {
+    monitor.is_closed(session) && monitor.journal().len() == entries
+}
 
 #[test]
 fn a_session_from_opening_to_end(rt: HostRuntime) -> Result<(), Fail> {
@@ -16,27 +28,22 @@ fn a_session_from_opening_to_end(rt: HostRuntime) -> Result<(), Fail> {
         entries: 8,
         text: 1000,
     };
-    let mut monitor = Monitor::new(rt.alloc(), limits)?;
-    let session = monitor.open(rt.alloc())?;
-    answer(rt.alloc(), &mut monitor, input(rt.alloc(), "{}")?, 5)?;
-    assert!(rt; monitor.running() == None);
-    assert!(rt; monitor.is_known(session));
-    assert_eq!(rt; monitor.admitted(session), 1);
-    let lines = monitor.take(session)?;
+    let (mut monitor, session) = opened(rt.alloc(), limits)?;
+    answer_text(rt.alloc(), &mut monitor, b"{}", 5)?;
+    assert!(rt; has_answered_one(&monitor, session));
+    let lines = taken(&mut monitor, session)?;
     let reply =
-        "{\"error\": {\"class\": \"GenericError\", \"desc\": \"QMP input lacks member 'execute'\"}}";
-    expect(&rt, &lines, &[GREETING, reply]);
-    monitor.end(session)?;
-    monitor.drop_session(session, Cause::Ended)?;
-    assert!(rt; monitor.is_closed(session));
-    assert_eq!(rt; monitor.journal().len(), 7);
+        r#"{"error": {"class": "GenericError", "desc": "QMP input lacks member 'execute'"}}"#;
+    assert_eq!(rt; lines.len(), 2);
+    assert_eq!(rt; line_at(&lines, 0), GREETING.as_bytes());
+    assert_eq!(rt; line_at(&lines, 1), reply.as_bytes());
+    end_and_drop(&mut monitor, session)?;
+    assert!(rt; is_closed_after(&monitor, session, 7));
     Ok(())
 }
 
 /// A request whose reply has its id of 4,194,304 bytes.
-fn long_request(alloc: Global) -> Result<Input, Fail>
-    ensures { IfOk result IsCleanInput }
-{
+fn long_request(alloc: Global) -> Result<Text, Fail> {
     let mut id = Text::of(alloc, b"a")?;
     for _ in 0..22 {
         let half = id.copy(alloc)?;
@@ -45,8 +52,22 @@ fn long_request(alloc: Global) -> Result<Input, Fail>
     let mut text = Text::of(alloc, b"{\"id\": \"")?;
     text.extend(id.as_slice())?;
     text.extend(b"\"}")?;
-    let value = read(alloc, text.as_slice())?;
-    Ok(Input::Doc(Shared::new(alloc, value)?))
+    Ok(text)
+}
+
+/// Answers such a request, and tells whether the session has overrun.
+fn overruns(alloc: Global, monitor: &mut Monitor, session: u32) -> Result<bool, Fail> {
+    let request = long_request(alloc)?;
+    answer_text(alloc, monitor, request.as_slice(), 0)?;
+    Ok(monitor.is_overrun(session))
+}
+
+/// Ends the session, which may not be dropped as drained, and drops it as overrun.
+fn drop_overrun(monitor: &mut Monitor, session: u32) -> Result<bool, Fail> {
+    monitor.end(session)?;
+    let drained = monitor.drop_session(session, Cause::Ended);
+    monitor.drop_session(session, Cause::Overrun)?;
+    Ok(matches!(drained, Err(StepFault::NotDrained)))
 }
 
 // Of 16,777,216 bytes that may be untaken, three of these replies take less, and four more.
@@ -56,18 +77,12 @@ fn a_session_that_overruns(rt: HostRuntime) -> Result<(), Fail> {
         entries: 20,
         text: MOST_TEXT,
     };
-    let mut monitor = Monitor::new(rt.alloc(), limits)?;
-    let session = monitor.open(rt.alloc())?;
+    let (mut monitor, session) = opened(rt.alloc(), limits)?;
     for _ in 0..3 {
-        answer(rt.alloc(), &mut monitor, long_request(rt.alloc())?, 0)?;
+        assert!(rt; !overruns(rt.alloc(), &mut monitor, session)?);
     }
-    assert!(rt; !monitor.is_overrun(session));
-    answer(rt.alloc(), &mut monitor, long_request(rt.alloc())?, 0)?;
-    assert!(rt; monitor.is_overrun(session));
-    assert_eq!(rt; monitor.take(session)?.len(), 4);
-    monitor.end(session)?;
-    let drained = monitor.drop_session(session, Cause::Ended);
-    assert!(rt; matches!(drained, Err(StepFault::NotDrained)));
-    monitor.drop_session(session, Cause::Overrun)?;
+    assert!(rt; overruns(rt.alloc(), &mut monitor, session)?);
+    assert_eq!(rt; taken(&mut monitor, session)?.len(), 4);
+    assert!(rt; drop_overrun(&mut monitor, session)?);
     Ok(())
 }
