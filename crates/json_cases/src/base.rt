@@ -1,6 +1,6 @@
 //! Numerals, and each call of texts, lists and shared values once.
 
-use crate::tables::rows;
+use crate::tables::{expect, expect_told, rows};
 use qm_base::{GrowingList, History, ReservedList, Shared, Text, are_digits, is_space, number};
 use std::alloc::Global;
 use std::test::Fail;
@@ -19,12 +19,17 @@ const NUMERALS: &str = "\
 1a | None
 ";
 
+/// The number of a text, as it is printed for debugging.
+fn value(rt: &impl AllocGlobal, text: &[u8]) -> Result<String, Fail> {
+    Ok(format!(in rt.alloc(); "{:?}", number(text))?)
+}
+
 #[test]
 fn numerals_are_read(rt: HostRuntime) -> Result<(), Fail> {
     let rows = rows(&rt, NUMERALS)?;
     for row in &rows {
-        let value = format!(in rt.alloc(); "{:?}", number(row.case.as_slice()))?;
-        assert_eq!(rt; value.as_bytes(), row.told.as_slice(), "{}", row.line);
+        let value = value(&rt, row.case.as_slice())?;
+        expect_told(&rt, row, value.as_bytes());
     }
     assert_eq!(rt; rows.len(), 10);
     Ok(())
@@ -49,7 +54,7 @@ fn abcde(alloc: Global) -> Result<Text, Fail> {
 #[test]
 fn a_text_grows(rt: HostRuntime) -> Result<(), Fail> {
     let text = abcde(rt.alloc())?;
-    assert_eq!(rt; text.as_slice(), b"abcde".as_slice());
+    expect(&rt, text.as_slice(), b"abcde");
     assert_eq!(rt; text.len(), 5);
     assert!(rt; !text.is_empty());
     assert!(rt; Text::new(rt.alloc()).is_empty());

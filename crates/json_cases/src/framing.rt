@@ -1,7 +1,8 @@
 //! Streams of bytes, the frames that they have, and where reading goes on after a fault.
 
-use crate::tables::rows;
+use crate::tables::{expect, expect_told, rows};
 use qm_frame::{FrameFault, Framer, Step};
+use std::process::Abort;
 use std::test::Fail;
 
 /// Streams, each with a line for each of its frames.
@@ -67,14 +68,18 @@ fn streams_have_their_frames(rt: HostRuntime) -> Result<(), Fail> {
     let rows = rows(&rt, STREAMS)?;
     for row in &rows {
         let lines = frames(&rt, row.case.as_slice())?;
-        assert_eq!(rt; lines.as_slice(), row.told.as_slice(), "{}", row.line);
+        expect_told(&rt, row, lines.as_slice());
     }
     assert_eq!(rt; rows.len(), 31);
     Ok(())
 }
 
 /// So many opening brackets, and so many closing ones.
-fn nested(rt: &impl AllocGlobal, openers: usize, closers: usize) -> Result<Vec<u8>, Fail> {
+pub(crate) fn nested(
+    rt: &impl AllocGlobal,
+    openers: usize,
+    closers: usize,
+) -> Result<Vec<u8>, Fail> {
     let mut bytes = Vec::new(rt.alloc());
     for _ in 0..openers {
         bytes.push(b'[')?;
@@ -85,36 +90,53 @@ fn nested(rt: &impl AllocGlobal, openers: usize, closers: usize) -> Result<Vec<u
     Ok(bytes)
 }
 
+/// Asserts that the lines of a stream are the stream and a line feed.
+fn expect_one(rt: &(impl Abort + AllocGlobal), mut message: Vec<u8>) -> Result<(), Fail> {
+    let lines = frames(rt, message.as_slice())?;
+    message.push(b'\n')?;
+    assert!(rt; lines.as_slice() == message.as_slice());
+    Ok(())
+}
+
+/// Asserts that a stream has these lines.
+fn expect_lines(rt: &(impl Abort + AllocGlobal), stream: Vec<u8>, told: &[u8]) -> Result<(), Fail> {
+    let lines = frames(rt, stream.as_slice())?;
+    expect(rt, lines.as_slice(), told);
+    Ok(())
+}
+
 #[test]
 fn nesting_has_a_limit(rt: HostRuntime) -> Result<(), Fail> {
-    let mut deepest = nested(&rt, 128, 128)?;
-    let lines = frames(&rt, deepest.as_slice())?;
-    deepest.push(b'\n')?;
-    assert_eq!(rt; lines.as_slice(), deepest.as_slice());
-    let lines = frames(&rt, nested(&rt, 129, 129)?.as_slice())?;
-    assert_eq!(rt; lines.as_slice(), b"too deep\n".as_slice());
-    Ok(())
+    expect_one(&rt, nested(&rt, 128, 128)?)?;
+    expect_lines(&rt, nested(&rt, 129, 129)?, b"too deep\n")
+}
+
+/// A text, so many letters, a quotation mark and a closing brace.
+pub(crate) fn with_letters(
+    rt: &impl AllocGlobal,
+    text: &[u8],
+    letters: usize,
+) -> Result<Vec<u8>, Fail> {
+    let mut bytes = Vec::from_slice(rt.alloc(), text)?;
+    for _ in 0..letters {
+        bytes.push(b'a')?;
+    }
+    bytes.extend_from_slice(b"\"}")?;
+    Ok(bytes)
 }
 
 /// A request to query the version under an id of so many letters, and then `{}`.
 fn with_id(rt: &impl AllocGlobal, letters: usize) -> Result<Vec<u8>, Fail> {
-    let mut stream = Vec::new(rt.alloc());
-    stream.extend_from_slice(b"{\"execute\":\"query-version\",\"id\":\"")?;
-    for _ in 0..letters {
-        stream.push(b'a')?;
-    }
-    stream.extend_from_slice(b"\"}\n{}")?;
+    let text = b"{\"execute\":\"query-version\",\"id\":\"";
+    let mut stream = with_letters(rt, text, letters)?;
+    stream.extend_from_slice(b"\n{}")?;
     Ok(stream)
 }
 
 #[test]
 fn requests_have_a_limit(rt: HostRuntime) -> Result<(), Fail> {
-    let mut longest = with_id(&rt, 1_048_541)?;
+    let longest = with_id(&rt, 1_048_541)?;
     assert_eq!(rt; longest.len(), 1_048_579);
-    let lines = frames(&rt, longest.as_slice())?;
-    longest.push(b'\n')?;
-    assert!(rt; lines.as_slice() == longest.as_slice());
-    let lines = frames(&rt, with_id(&rt, 1_048_542)?.as_slice())?;
-    assert_eq!(rt; lines.as_slice(), b"too long\n{}\n".as_slice());
-    Ok(())
+    expect_one(&rt, longest)?;
+    expect_lines(&rt, with_id(&rt, 1_048_542)?, b"too long\n{}\n")
 }

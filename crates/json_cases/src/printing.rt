@@ -1,7 +1,7 @@
 //! Printed texts, with escapes as in RFC 8259, section 7, the greeting, and each call once.
 
 use crate::reading::printed;
-use crate::tables::rows;
+use crate::tables::{self, rows};
 use qm_base::Text;
 use qm_caps::{Mode, bound, greeting, version};
 use qm_json::{Json, MemberFault, Members, has_member};
@@ -32,10 +32,10 @@ fn has_length(value: &Json, length: usize) -> bool {
 }
 
 /// Asserts that a value is printed as this text.
-fn expect(rt: &(impl Abort + AllocGlobal), value: &Json, text: &[u8]) -> Result<(), Fail> {
-    let out = printed(rt, value)?;
-    assert_eq!(rt; out.as_slice(), text);
-    assert!(rt; has_length(value, text.len()));
+fn expect(rt: &(impl Abort + AllocGlobal), value: Json, text: &[u8]) -> Result<(), Fail> {
+    let out = printed(rt, &value)?;
+    tables::expect(rt, out.as_slice(), text);
+    assert!(rt; has_length(&value, text.len()));
     Ok(())
 }
 
@@ -44,7 +44,7 @@ fn strings_print_with_escapes(rt: HostRuntime) -> Result<(), Fail> {
     let rows = rows(&rt, STRINGS)?;
     for row in &rows {
         let value = Json::string(rt.alloc(), row.case.as_slice())?;
-        expect(&rt, &value, row.told.as_slice())?;
+        expect(&rt, value, row.told.as_slice())?;
     }
     assert_eq!(rt; rows.len(), 14);
     Ok(())
@@ -52,22 +52,22 @@ fn strings_print_with_escapes(rt: HostRuntime) -> Result<(), Fail> {
 
 #[test]
 fn literals_print(rt: HostRuntime) -> Result<(), Fail> {
-    expect(&rt, &Json::Null, b"null")?;
-    expect(&rt, &Json::Bool(true), b"true")?;
-    expect(&rt, &Json::Bool(false), b"false")?;
-    expect(&rt, &Json::Arr(Items::new(rt.alloc())), b"[]")?;
-    expect(&rt, &Members::new(rt.alloc()).into_json(), b"{}")
+    expect(&rt, Json::Null, b"null")?;
+    expect(&rt, Json::Bool(true), b"true")?;
+    expect(&rt, Json::Bool(false), b"false")?;
+    expect(&rt, Json::Arr(Items::new(rt.alloc())), b"[]")?;
+    expect(&rt, Members::new(rt.alloc()).into_json(), b"{}")
 }
 
 #[test]
 fn numbers_print(rt: HostRuntime) -> Result<(), Fail> {
     let least = b"-9223372036854775808";
     let greatest = b"18446744073709551615";
-    expect(&rt, &Json::Int(0), b"0")?;
-    expect(&rt, &Json::Int(-9223372036854775808), least)?;
-    expect(&rt, &Json::Int(18446744073709551615), greatest)?;
+    expect(&rt, Json::Int(0), b"0")?;
+    expect(&rt, Json::Int(-9223372036854775808), least)?;
+    expect(&rt, Json::Int(18446744073709551615), greatest)?;
     let number = Text::of(rt.alloc(), b"-1.50E+2")?;
-    expect(&rt, &Json::Num(number), b"-1.50E+2")
+    expect(&rt, Json::Num(number), b"-1.50E+2")
 }
 
 const GREETING: &str =
@@ -77,21 +77,38 @@ const VERSION: &str =
     "{\"qemu\": {\"micro\": 0, \"minor\": 0, \"major\": 1}, \"package\": \"qmpd\"}";
 
 #[test]
-fn a_greeting_is_printed_and_copied(rt: HostRuntime) -> Result<(), Fail> {
+fn a_greeting_is_printed(rt: HostRuntime) -> Result<(), Fail> {
+    expect(&rt, greeting(rt.alloc())?, GREETING.as_bytes())?;
+    expect(&rt, version(rt.alloc())?, VERSION.as_bytes())
+}
+
+fn is_same(value: &Json, other: &Json) -> bool {
+    value.same(other)
+}
+
+#[test]
+fn a_greeting_is_copied(rt: HostRuntime) -> Result<(), Fail> {
     let value = greeting(rt.alloc())?;
-    expect(&rt, &value, GREETING.as_bytes())?;
-    expect(&rt, &version(rt.alloc())?, VERSION.as_bytes())?;
     let copied = value.copy(rt.alloc())?;
-    expect(&rt, &copied, GREETING.as_bytes())?;
-    assert!(rt; copied.same(&value));
-    assert!(rt; !copied.same(&Json::Null));
-    match value.member(b"QMP") {
-        Some(inner) => {
-            assert!(rt; inner.member(b"version").is_some());
-            assert!(rt; inner.member(b"QMP").is_none());
-        }
-        None => panic!(rt; "no member"),
+    assert!(rt; is_same(&copied, &value));
+    assert!(rt; !is_same(&copied, &Json::Null));
+    expect(&rt, copied, GREETING.as_bytes())
+}
+
+/// Whether a value has a member of the one name, and in that one of the other.
+fn has_within(value: &Json, name: &[u8], inner: &[u8]) -> bool {
+    match value.member(name) {
+        Some(value) => value.member(inner).is_some(),
+        None => false,
     }
+}
+
+#[test]
+fn a_greeting_has_its_members(rt: HostRuntime) -> Result<(), Fail> {
+    let value = greeting(rt.alloc())?;
+    assert!(rt; value.member(b"QMP").is_some());
+    assert!(rt; has_within(&value, b"QMP", b"version"));
+    assert!(rt; !has_within(&value, b"QMP", b"QMP"));
     Ok(())
 }
 
@@ -127,5 +144,5 @@ fn a_name_is_taken_once(rt: HostRuntime) -> Result<(), Fail> {
     assert!(rt; again == Err(MemberFault::Twice));
     assert!(rt; push(rt.alloc(), &mut members, b"ID", 3)? == Ok(()));
     assert!(rt; has_one(&members, b"ID", b"Id"));
-    expect(&rt, &members.into_json(), b"{\"id\": 1, \"ID\": 3}")
+    expect(&rt, members.into_json(), b"{\"id\": 1, \"ID\": 3}")
 }

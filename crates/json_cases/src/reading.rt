@@ -1,11 +1,13 @@
 //! Texts that are read, with their values as they are printed; the pair of surrogates is that of
 //! RFC 8259, section 7.
 
-use crate::tables::rows;
+use crate::framing::{nested, with_letters};
+use crate::tables::{expect, expect_told, rows};
 use qm_base::Text;
 use qm_frame::{MAX_DEPTH, MAX_LENGTH};
 use qm_json::Json;
 use qm_read::{JsonFault, Taken, read};
+use std::alloc::Global;
 use std::process::Abort;
 use std::test::Fail;
 
@@ -61,7 +63,7 @@ pub(crate) fn expect_rows(rt: &(impl Abort + AllocGlobal), table: &str) -> Resul
     let rows = rows(rt, table)?;
     for row in &rows {
         let answer = answer(rt, row.case.as_slice())?;
-        assert_eq!(rt; answer.as_slice(), row.told.as_slice(), "{}", row.line);
+        expect_told(rt, row, answer.as_slice());
     }
     Ok(rows.len())
 }
@@ -72,47 +74,48 @@ fn values_are_read(rt: HostRuntime) -> Result<(), Fail> {
     Ok(())
 }
 
+fn is_read(alloc: Global, text: &[u8]) -> bool {
+    read(alloc, text).is_ok()
+}
+
 #[test]
 fn nesting_has_its_limit(rt: HostRuntime) -> Result<(), Fail> {
-    let mut text = Vec::new(rt.alloc());
-    for _ in 0..MAX_DEPTH {
-        text.push(b'[')?;
-    }
-    for _ in 0..MAX_DEPTH {
-        text.push(b']')?;
-    }
-    assert!(rt; read(rt.alloc(), text.as_slice()).is_ok());
-    text.insert(0, b'[')?;
-    text.push(b']')?;
-    let answer = answer(&rt, text.as_slice())?;
-    assert_eq!(rt; answer.as_slice(), b"Expected(128)".as_slice());
+    let deepest = nested(&rt, MAX_DEPTH, MAX_DEPTH)?;
+    assert!(rt; is_read(rt.alloc(), deepest.as_slice()));
+    let deeper = nested(&rt, 129, 129)?;
+    let answer = answer(&rt, deeper.as_slice())?;
+    expect(&rt, answer.as_slice(), b"Expected(128)");
     Ok(())
 }
 
 #[test]
 fn requests_of_the_greatest_length_are_read(rt: HostRuntime) -> Result<(), Fail> {
-    let mut text = Vec::from_slice(rt.alloc(), b"{\"execute\":\"query-version\",\"id\":\"")?;
-    let mut told = Vec::from_slice(rt.alloc(), b"{\"execute\": \"query-version\", \"id\": \"")?;
-    for _ in 0..1_048_541 {
-        text.push(b'a')?;
-        told.push(b'a')?;
-    }
-    text.extend_from_slice(b"\"}")?;
-    told.extend_from_slice(b"\"}")?;
+    let text = with_letters(&rt, b"{\"execute\":\"query-version\",\"id\":\"", 1_048_541)?;
+    let told = with_letters(
+        &rt,
+        b"{\"execute\": \"query-version\", \"id\": \"",
+        1_048_541,
+    )?;
     assert_eq!(rt; text.len(), MAX_LENGTH);
     let answer = answer(&rt, text.as_slice())?;
     assert!(rt; answer.as_slice() == told.as_slice());
     Ok(())
 }
 
+/// Whether a message is taken as a value.
+fn is_value(alloc: Global, message: &[u8]) -> Result<bool, Fail> {
+    Ok(matches!(Taken::of_message(alloc, message)?, Taken::Value(_)))
+}
+
+/// Whether a message is taken as a text with its first fault at byte 1.
+fn is_bad_at_1(alloc: Global, message: &[u8]) -> Result<bool, Fail> {
+    let taken = Taken::of_message(alloc, message)?;
+    Ok(matches!(taken, Taken::BadText(JsonFault::Expected(1))))
+}
+
 #[test]
 fn messages_are_taken(rt: HostRuntime) -> Result<(), Fail> {
-    assert!(rt; matches!(Taken::of_message(rt.alloc(), b"{}")?, Taken::Value(_)));
-    assert!(rt;
-        matches!(
-            Taken::of_message(rt.alloc(), b"{]")?,
-            Taken::BadText(JsonFault::Expected(1))
-        )
-    );
+    assert!(rt; is_value(rt.alloc(), b"{}")?);
+    assert!(rt; is_bad_at_1(rt.alloc(), b"{]")?);
     Ok(())
 }

@@ -1,6 +1,7 @@
 //! Tables of cases.
 
 use percent_encoding::percent_decode;
+use std::process::Abort;
 use std::test::Fail;
 
 /// A row: a case and, after ` | `, what is told of it, both percent-encoded as in RFC 3986,
@@ -31,4 +32,14 @@ pub(crate) fn rows<'a>(rt: &impl AllocGlobal, table: &'a str) -> Result<Vec<Row<
         rows.push(Row { line, case, told })?;
     }
     Ok(rows)
+}
+
+/// Asserts that what was found of a row's case is what the row tells.
+pub(crate) fn expect_told(rt: &impl Abort, row: &Row<'_>, found: &[u8]) {
+    assert_eq!(rt; found, row.told.as_slice(), "{}", row.line);
+}
+
+/// Asserts that what was found is what is told.
+pub(crate) fn expect(rt: &impl Abort, found: &[u8], told: &[u8]) {
+    assert_eq!(rt; found, told);
 }

@@ -1,6 +1,6 @@
 //! The text of a whole journal, and a sink that fails in its course.
 
-use crate::playing::{NEGOTIATION, admit, answer_text, opened, taken};
+use crate::playing::{NEGOTIATION, admit, answer_text, opened, take};
 use qm_base::CallList;
 use qm_core::{BadInput, Cause, FrameWord, Input, Limits, Monitor};
 use qm_history::{HistoryFault, write_history};
@@ -25,33 +25,35 @@ const TEXT: &str = r#"1 open 1
 12 drop 1 read-fault
 "#;
 
-/// The end of a session's input, the start of its last request, and its fall.
-fn fall(monitor: &mut Monitor, session: u32) -> Result<(), Fail> {
-    monitor.end(session)?;
+/// The end of the session's input, the start of its last request, and its fall.
+fn fall(monitor: &mut Monitor) -> Result<(), Fail> {
+    monitor.end(1)?;
     monitor.start()?;
-    monitor.drop_session(session, Cause::ReadFault)?;
+    monitor.drop_session(1, Cause::ReadFault)?;
     Ok(())
 }
 
-fn played(alloc: Global) -> Result<Monitor, Fail> {
-    let limits = Limits {
-        entries: 20,
-        text: 10_000,
-    };
-    let (mut monitor, session) = opened(alloc, limits)?;
-    answer_text(alloc, &mut monitor, NEGOTIATION.as_bytes(), 0)?;
+fn play(alloc: Global, monitor: &mut Monitor) -> Result<(), Fail> {
+    answer_text(alloc, monitor, NEGOTIATION.as_bytes(), 0)?;
     let question = b"{\"execute\": \"query-version\", \"id\": 7}";
-    answer_text(alloc, &mut monitor, question, 5)?;
-    taken(&mut monitor, session)?;
-    let bad = Input::Bad(BadInput::Frame(FrameWord::LexError));
-    admit(alloc, &mut monitor, bad)?;
-    fall(&mut monitor, session)?;
-    Ok(monitor)
+    answer_text(alloc, monitor, question, 5)?;
+    take(monitor)?;
+    admit(
+        alloc,
+        monitor,
+        Input::Bad(BadInput::Frame(FrameWord::LexError)),
+    )?;
+    fall(monitor)
 }
 
 /// Writes the journal of what was played.
 fn write(alloc: Global, sink: &mut MemorySink) -> Result<Result<(), HistoryFault>, Fail> {
-    let monitor = played(alloc)?;
+    let limits = Limits {
+        entries: 20,
+        text: 10_000,
+    };
+    let mut monitor = opened(alloc, limits)?;
+    play(alloc, &mut monitor)?;
     Ok(write_history(alloc, monitor.journal(), sink))
 }
 

@@ -18,15 +18,15 @@ pub(crate) const NEGOTIATION: &str = r#"{"execute": "qmp_capabilities"}"#;
 pub(crate) const GREETING: &str =
     r#"{"QMP": {"version": {"qemu": {"micro": 0, "minor": 0, "major": 1}, "package": "qmpd"}, "capabilities": ["oob"]}}"#;
 
-/// A monitor with these limits, and its session that was opened.
-pub(crate) fn opened(alloc: Global, limits: Limits) -> Result<(Monitor, u32), Fail>
+/// A monitor with these limits, whose session 1 was opened.
+pub(crate) fn opened(alloc: Global, limits: Limits) -> Result<Monitor, Fail>
     requires some { 1 ≤ limits.entries }
     requires few { limits.entries ≤ MOST_ENTRIES }
     requires short { limits.text ≤ MOST_TEXT }
 {
     let mut monitor = Monitor::new(alloc, limits)?;
-    let session = monitor.open(alloc)?;
-    Ok((monitor, session))
+    monitor.open(alloc)?;
+    Ok(monitor)
 }
 
 /// The input of a text.
@@ -75,9 +75,15 @@ pub(crate) fn answer_text(
     answer(alloc, monitor, input(alloc, text)?, moment)
 }
 
-/// The lines of a session that are handed out.
-pub(crate) fn taken(monitor: &mut Monitor, session: u32) -> Result<LineList, Fail> {
-    Ok(monitor.take(session)?)
+/// The lines of the first session that are handed out.
+pub(crate) fn taken(monitor: &mut Monitor) -> Result<LineList, Fail> {
+    Ok(monitor.take(1)?)
+}
+
+/// Hands out the lines of the first session, and lets them go.
+pub(crate) fn take(monitor: &mut Monitor) -> Result<(), Fail> {
+    monitor.take(1)?;
+    Ok(())
 }
 
 /// The text of the line at this place, from 0 on, or nothing.

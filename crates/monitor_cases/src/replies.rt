@@ -2,8 +2,8 @@
 
 ghost use Rattle.qm_core.specs.Inputs.{IsCleanInput};
 
-use crate::playing::{NEGOTIATION, answer, answer_text, input, line_at, opened, taken};
-use qm_core::{BadInput, FrameWord, Input, JsonWord, Limits, Monitor};
+use crate::playing::{NEGOTIATION, answer, answer_text, input, line_at, opened, take, taken};
+use qm_core::{BadInput, FrameWord, Input, JsonWord, Limits, LineList, Monitor};
 use std::alloc::Global;
 use std::process::Abort;
 use std::test::Fail;
@@ -22,20 +22,35 @@ after | {"execute": "query-version", "arguments": {"a": null}} | {"error": {"cla
 after | [] | {"error": {"class": "GenericError", "desc": "QMP input must be a JSON object"}}
 "#;
 
-/// A monitor before or after the negotiation, whose lines were taken, and its session.
-fn greeted(alloc: Global, negotiated: bool) -> Result<(Monitor, u32), Fail> {
+/// The lines that answer an input, before or after the negotiation.
+fn answered(
+    alloc: Global,
+    monitor: &mut Monitor,
+    negotiated: bool,
+    input: Input,
+) -> Result<LineList, Fail>
+    requires { IsCleanInput input }
+{
+    if negotiated {
+        answer_text(alloc, monitor, NEGOTIATION.as_bytes(), 0)?;
+    }
+    take(monitor)?;
+    answer(alloc, monitor, input, 0)?;
+    taken(monitor)
+}
+
+fn lines(alloc: Global, negotiated: bool, input: Input) -> Result<LineList, Fail>
+    requires { IsCleanInput input }
+{
     let limits = Limits {
         entries: 10,
         text: 10_000,
     };
-    let (mut monitor, session) = opened(alloc, limits)?;
-    if negotiated {
-        answer_text(alloc, &mut monitor, NEGOTIATION.as_bytes(), 0)?;
-    }
-    taken(&mut monitor, session)?;
-    Ok((monitor, session))
+    let mut monitor = opened(alloc, limits)?;
+    answered(alloc, &mut monitor, negotiated, input)
 }
 
+/// Asserts that an input, before or after the negotiation, has this reply.
 fn reply(
     rt: &(impl Abort + AllocGlobal),
     negotiated: bool,
@@ -44,9 +59,7 @@ fn reply(
 ) -> Result<(), Fail>
     requires { IsCleanInput input }
 {
-    let (mut monitor, session) = greeted(rt.alloc(), negotiated)?;
-    answer(rt.alloc(), &mut monitor, input, 0)?;
-    let lines = taken(&mut monitor, session)?;
+    let lines = lines(rt.alloc(), negotiated, input)?;
     assert_eq!(rt; lines.len(), 1);
     assert_eq!(rt; line_at(&lines, 0), line.as_bytes());
     Ok(())
