@@ -1,4 +1,4 @@
-ghost use Rattle.std.specs.Prelude.{◌≡◌, ◌<◌, ◌≤◌, ◌^◌, length, position, IfSome, option_map, codes, Option, Some};
+ghost use Rattle.std.specs.Prelude.{◌≡◌, ◌<◌, length, position, IfSome, option_map, codes, Option, Some};
 ghost use Rattle.std.specs.Option.{option_copied, option_and_then};
 ghost use Rattle.qm_script.specs.Orders.{after_word as after_word_of, before_blank as before_blank_of, after_blank as after_blank_of, is_blank, session_number, session_after as session_after_of, long_order_of, text_order as text_order_of, feed_order as feed_order_of, drop_order as drop_order_of, order_of, is_skipped as is_skipped_line, fed_by as fed_by_of};
 ghost use Rattle.qm_script.specs.declared.orders.Order.TheVariants.{Admit, Finish, Take, Eof};

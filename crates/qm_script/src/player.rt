@@ -1,4 +1,4 @@
-ghost use Rattle.std.specs.Prelude.{◌≡◌, ◌≤◌, ◌++◌, ◌∷◌, [], IfOk, IfSome, Some, None, length, slice_get, true};
+ghost use Rattle.std.specs.Prelude.{◌≡◌, ◌≤◌, ◌++◌, IfOk, IfSome, Some, None, slice_get, true};
 ghost use Rattle.qm_core.specs.Legal.{past_of};
 ghost use Rattle.qm_core.specs.Next.{Start, Take, End, Drop, session_refusal};
 ghost use Rattle.qm_core.specs.Next as step;
@@ -7,7 +7,7 @@ ghost use Rattle.qm_core.specs.declared.TheConstants.{MOST_ENTRIES, MOST_TEXT};
 ghost use Rattle.qm_core.specs.Inputs.{IsCleanInput};
 ghost use Rattle.qm_script.specs.Fed.{fed_inputs_of};
 ghost use Rattle.qm_script.specs.Endings.{stop_of as stop_of_fault};
-ghost use Rattle.qm_script.specs.Orders.{fed_by as fed_by_of, hex_bytes_of, order_of};
+ghost use Rattle.qm_script.specs.Orders.{hex_bytes_of};
 ghost use Rattle.qm_script.specs.Playing.{nothing_played, core_step, open_step, fed_step, admit_step, fed_to, finish_step, ordered, line_step};
 
 use crate::endings::{StepWord, Stop};
@@ -27,7 +27,6 @@ pub struct Player {
 }
 
 impl Model for Player {
-    ghost use Rattle.qm_script.specs.Playing.{Played};
     ghost use Rattle.qm_script.specs.Players.{Playing, playing_code};
     ghost use Rattle.qm_core.specs.contracts.entries.Entry as entry;
 
