@@ -215,7 +215,8 @@ fn raise(
 }
 
 fn tick(alloc: Global, throttle: &mut Throttle, moment: u64) -> Result<String, Fail>
-    ensures { OnOk result (throttle.new.periods ≡ throttle.old.periods) }
+    requires { length throttle.old.periods ≡ 4 }
+    ensures { OnOk result (length throttle.new.periods ≡ 4) }
 {
     let sent = throttle.tick(alloc, moment)?;
     all_shown(alloc, sent.as_slice())

@@ -45,16 +45,17 @@ fn sessions(alloc: Global, words: &str) -> Result<TurnList, Fail> {
 }
 
 fn put(queue: &mut TurnQueue, item: TurnItem) -> Result<(), Fail> {
-    if item.session == 0 || item.session as usize > queue.as_slice().len() {
-        return Err(Fail::from("no such session"));
+    if 0 < item.session && item.session as usize <= queue.as_slice().len() {
+        queue.put(item);
+        Ok(())
+    } else {
+        Err(Fail::from("no such session"))
     }
-    queue.put(item);
-    Ok(())
 }
 
-fn opened(alloc: Global, sessions: u32) -> Result<TurnQueue, Fail> {
+fn opened(alloc: Global, count: u32) -> Result<TurnQueue, Fail> {
     let mut queue = TurnQueue::new(alloc);
-    for _ in 0..sessions {
+    for _ in 0..count {
         queue.open()?;
     }
     Ok(queue)
@@ -118,11 +119,12 @@ fn take(queue: &mut TurnQueue, again: Option<u64>) -> Result<Option<u32>, Fail> 
 }
 
 fn remove(queue: &mut TurnQueue, session: u32) -> Result<(), Fail> {
-    if session == 0 || session as usize > queue.as_slice().len() {
-        return Err(Fail::from("no such session"));
+    if 0 < session && session as usize <= queue.as_slice().len() {
+        queue.remove(session);
+        Ok(())
+    } else {
+        Err(Fail::from("no such session"))
     }
-    queue.remove(session);
-    Ok(())
 }
 
 /// Three sessions that were never started.
@@ -148,11 +150,12 @@ fn one_turn_after_the_other(rt: HostRuntime) -> Result<(), Fail> {
 }
 
 fn put_number(ring: &mut Ring, number: u64) -> Result<(), Fail> {
-    if ring.len() >= 8 {
-        return Err(Fail::from("no place"));
+    if ring.len() < 8 {
+        ring.put(number);
+        Ok(())
+    } else {
+        Err(Fail::from("no place"))
     }
-    ring.put(number);
-    Ok(())
 }
 
 #[test]
