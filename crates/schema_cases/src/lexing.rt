@@ -26,36 +26,50 @@ unclosed 2 |{^'a: 1 }^'
 unclosed 1 |'a\\\\
 ";
 
-/// How a table writes what a token is: a string after `=`, as what it stands for.
-fn shown(rt: &impl AllocGlobal, kind: &TokenKind) -> Result<String, Fail> {
+/// Writes what a token is: a string after `=`, as what it stands for.
+fn put(out: &mut String, kind: &TokenKind) -> Result<(), Fail> {
     match kind {
-        TokenKind::Mark(byte) => Ok(format!(in rt.alloc(); "{}", char::from(*byte))?),
-        TokenKind::Flag(value) => Ok(format!(in rt.alloc(); "{value}")?),
+        TokenKind::Mark(byte) => out.push(char::from(*byte))?,
+        TokenKind::Flag(true) => out.push_str("true")?,
+        TokenKind::Flag(false) => out.push_str("false")?,
         TokenKind::Str(text) => {
-            let text = str::from_utf8(text.as_slice())?;
-            Ok(format!(in rt.alloc(); "={text}")?)
+            out.push_str("=")?;
+            out.push_str(str::from_utf8(text.as_slice())?)?;
         }
     }
+    Ok(())
 }
 
 /// The line and the column of each token, and what it is.
 fn all_shown(rt: &impl AllocGlobal, tokens: &[Token]) -> Result<String, Fail> {
     let mut all = String::new(rt.alloc());
     for token in tokens {
-        let kind = shown(rt, &token.kind)?;
-        let one = format!(in rt.alloc(); "{}:{} {} ", token.line, token.column, kind)?;
-        all.push_str(one.as_str())?;
+        let place = format!(in rt.alloc(); "{}:{} ", token.line, token.column)?;
+        all.push_str(place.as_str())?;
+        put(&mut all, &token.kind)?;
+        all.push_str(" ")?;
     }
     Ok(all)
 }
 
-fn told(rt: &impl AllocGlobal, fault: LexFault) -> Result<String, Fail> {
+fn word_of(fault: LexFault) -> &'static str {
     match fault {
-        LexFault::BadByte(line) => Ok(format!(in rt.alloc(); "bad-byte {line} ")?),
-        LexFault::BadEscape(line) => Ok(format!(in rt.alloc(); "bad-escape {line} ")?),
-        LexFault::Unclosed(line) => Ok(format!(in rt.alloc(); "unclosed {line} ")?),
-        LexFault::Memory => Ok(String::new(rt.alloc())),
+        LexFault::BadByte(_) => "bad-byte",
+        LexFault::BadEscape(_) => "bad-escape",
+        LexFault::Unclosed(_) => "unclosed",
+        LexFault::Memory => "memory",
     }
+}
+
+fn line_of(fault: LexFault) -> u32 {
+    match fault {
+        LexFault::BadByte(line) | LexFault::BadEscape(line) | LexFault::Unclosed(line) => line,
+        LexFault::Memory => 0,
+    }
+}
+
+fn told(rt: &impl AllocGlobal, fault: LexFault) -> Result<String, Fail> {
+    Ok(format!(in rt.alloc(); "{} {} ", word_of(fault), line_of(fault))?)
 }
 
 /// The tokens of the text, or its first fault.

@@ -35,13 +35,16 @@ fn word_of(rule: LoadRule) -> &'static str {
     }
 }
 
-/// The file and the line of each source.
+/// The file and the line of a source.
+fn shown(rt: &impl AllocGlobal, source: &Source) -> Result<String, Fail> {
+    let file = str::from_utf8(source.file.as_slice())?;
+    Ok(format!(in rt.alloc(); "{}:{} ", file, source.expr.line)?)
+}
+
 fn all_shown(rt: &impl AllocGlobal, sources: &[Source]) -> Result<String, Fail> {
     let mut out = String::new(rt.alloc());
     for source in sources {
-        let file = str::from_utf8(source.file.as_slice())?;
-        let place = format!(in rt.alloc(); "{}:{} ", file, source.expr.line)?;
-        out.push_str(place.as_str())?;
+        out.push_str(shown(rt, source)?.as_str())?;
     }
     Ok(out)
 }
@@ -110,16 +113,25 @@ fn a_failed_read_names_its_file(rt: HostRuntime) -> Result<(), Fail> {
     Ok(())
 }
 
+/// A file that includes the next.
+fn link(rt: &impl AllocGlobal, number: u32) -> Result<LibraryFile, Fail> {
+    let next = number.saturating_add(1);
+    let part = format!(in rt.alloc(); "{number}:\n{{ 'include': '{next}' }}")?;
+    named(rt, part.as_str())
+}
+
+fn end(rt: &impl AllocGlobal, number: u32) -> Result<LibraryFile, Fail> {
+    let part = format!(in rt.alloc(); "{number}:{{ 'event': 'A' }}")?;
+    named(rt, part.as_str())
+}
+
 /// Files 1 and so on, each of which includes the next, up to the last.
 fn chain(rt: &impl AllocGlobal, last: u32) -> Result<FileList, Fail> {
     let mut files = FileList::new(rt.alloc());
     for number in 1..last {
-        let next = number.saturating_add(1);
-        let part = format!(in rt.alloc(); "{number}:\n{{ 'include': '{next}' }}")?;
-        files.push(named(rt, part.as_str())?)?;
+        files.push(link(rt, number)?)?;
     }
-    let part = format!(in rt.alloc(); "{last}:{{ 'event': 'A' }}")?;
-    files.push(named(rt, part.as_str())?)?;
+    files.push(end(rt, last)?)?;
     Ok(files)
 }
 

@@ -1,7 +1,7 @@
 //! Texts of schemas, and the expressions or the first fault of each.
 
 use crate::rows::{Asked, other_answers};
-use qapi_lex::lex;
+use qapi_lex::{TokenList, lex};
 use qapi_tree::{Expr, Tree, TreeFault, TreeList, TreeRule, parse};
 use std::test::Fail;
 
@@ -76,19 +76,29 @@ pub fn word_of(rule: TreeRule) -> &'static str {
     }
 }
 
+fn tokens(rt: &impl AllocGlobal, text: &[u8]) -> Result<TokenList, Fail> {
+    Ok(lex(rt.alloc(), text)?)
+}
+
 fn read(rt: &impl AllocGlobal, text: &[u8]) -> Result<Result<TreeList, TreeFault>, Fail> {
-    let tokens = lex(rt.alloc(), text)?;
+    let tokens = tokens(rt, text)?;
     Ok(parse(rt.alloc(), &tokens))
+}
+
+fn counted(rt: &impl AllocGlobal, exprs: &TreeList) -> Result<String, Fail> {
+    Ok(format!(in rt.alloc(); "ok {} ", exprs.len())?)
+}
+
+fn told(rt: &impl AllocGlobal, fault: &TreeFault) -> Result<String, Fail> {
+    let name = str::from_utf8(fault.name.as_slice())?;
+    Ok(format!(in rt.alloc(); "{} {} {} ", word_of(fault.rule), fault.line, name)?)
 }
 
 /// How many expressions the text has, or its first fault.
 pub fn answer(rt: &impl AllocGlobal, text: &[u8]) -> Result<String, Fail> {
     match read(rt, text)? {
-        Ok(exprs) => Ok(format!(in rt.alloc(); "ok {} ", exprs.as_slice().len())?),
-        Err(fault) => {
-            let name = str::from_utf8(fault.name.as_slice())?;
-            Ok(format!(in rt.alloc(); "{} {} {} ", word_of(fault.rule), fault.line, name)?)
-        }
+        Ok(exprs) => counted(rt, &exprs),
+        Err(fault) => told(rt, &fault),
     }
 }
 

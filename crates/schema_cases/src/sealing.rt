@@ -84,26 +84,39 @@ fn member(rt: &impl AllocGlobal, name: &str, id: &str, optional: bool) -> Result
     })
 }
 
-fn object(rt: &impl AllocGlobal, words: &str) -> Result<Kind, Fail> {
-    let mut def = ObjectDef {
+fn no_members(rt: &impl AllocGlobal) -> ObjectDef {
+    ObjectDef {
         members: GrowingList::new(rt.alloc()),
         tag: None,
         branches: GrowingList::new(rt.alloc()),
         features: GrowingList::new(rt.alloc()),
-    };
+    }
+}
+
+fn branch(value: &str, id: &str) -> Result<Branch, Fail> {
+    Ok(Branch {
+        value: numeral(value)?,
+        type_id: numeral(id)?,
+    })
+}
+
+fn add_word(rt: &impl AllocGlobal, def: &mut ObjectDef, word: &str) -> Result<(), Fail> {
+    if let Some((name, id)) = word.split_once(":") {
+        def.members.push(member(rt, name, id, false)?)?;
+    } else if let Some((name, id)) = word.split_once("?") {
+        def.members.push(member(rt, name, id, true)?)?;
+    } else if let Some((_, position)) = word.split_once("=") {
+        def.tag = Some(numeral(position)?);
+    } else if let Some((value, id)) = word.split_once(">") {
+        def.branches.push(branch(value, id)?)?;
+    }
+    Ok(())
+}
+
+fn object(rt: &impl AllocGlobal, words: &str) -> Result<Kind, Fail> {
+    let mut def = no_members(rt);
     for word in words.split_whitespace() {
-        if let Some((name, id)) = word.split_once(":") {
-            def.members.push(member(rt, name, id, false)?)?;
-        } else if let Some((name, id)) = word.split_once("?") {
-            def.members.push(member(rt, name, id, true)?)?;
-        } else if let Some((_, position)) = word.split_once("=") {
-            def.tag = Some(numeral(position)?);
-        } else if let Some((value, id)) = word.split_once(">") {
-            def.branches.push(Branch {
-                value: numeral(value)?,
-                type_id: numeral(id)?,
-            })?;
-        }
+        add_word(rt, &mut def, word)?;
     }
     Ok(Kind::Object(def))
 }
@@ -224,18 +237,20 @@ fn each_condition_is_looked_for(rt: HostRuntime) -> Result<(), Fail> {
     Ok(())
 }
 
-/// Unions in a chain, each with two branches of the next one's type; the last type has a member of
-/// the name given.
+/// The line of a union with two branches of the next one's type.
+fn union_line(rt: &impl AllocGlobal, number: u32) -> Result<String, Fail> {
+    let next = number.saturating_add(2);
+    Ok(format!(in rt.alloc(); "object t{number}:0 tag=0 0>{next} 1>{next}")?)
+}
+
+/// Unions in a chain; the last type has a member of the name given.
 fn chain(rt: &impl AllocGlobal, length: u32, last: &str) -> Result<Parts, Fail> {
     let mut parts = no_parts(rt);
     add(rt, &mut parts, "enum a b")?;
-    for i in 0..length {
-        let next = i.saturating_add(2);
-        let line = format!(in rt.alloc(); "object t{i}:0 tag=0 0>{next} 1>{next}")?;
-        add(rt, &mut parts, line.as_str())?;
+    for number in 0..length {
+        add(rt, &mut parts, union_line(rt, number)?.as_str())?;
     }
-    let line = format!(in rt.alloc(); "object {last}:0")?;
-    add(rt, &mut parts, line.as_str())?;
+    add(rt, &mut parts, last)?;
     Ok(parts)
 }
 
@@ -246,9 +261,9 @@ fn chain_verdict(rt: &impl AllocGlobal, last: &str) -> Result<String, Fail> {
 
 #[test]
 fn forty_unions_with_two_branches_each(rt: HostRuntime) -> Result<(), Fail> {
-    assert_eq!(rt; chain_verdict(&rt, "x")?.as_str(), "good ");
-    assert_eq!(rt; chain_verdict(&rt, "t0")?.as_str(), "bad ");
-    assert_eq!(rt; chain_verdict(&rt, "t39")?.as_str(), "bad ");
+    assert_eq!(rt; chain_verdict(&rt, "object x:0")?.as_str(), "good ");
+    assert_eq!(rt; chain_verdict(&rt, "object t0:0")?.as_str(), "bad ");
+    assert_eq!(rt; chain_verdict(&rt, "object t39:0")?.as_str(), "bad ");
     Ok(())
 }
 
