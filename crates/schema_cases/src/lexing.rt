@@ -1,70 +1,89 @@
 //! Texts and their tokens with places, and texts with a first fault.
 
-use qapi_lex::{LexFault, TokenKind, lex};
+use crate::rows::{Asked, other_answers};
+use qapi_lex::{LexFault, Token, TokenKind, lex};
 use std::test::Fail;
 
-/// A line for each token of the text: its line, its column, and how it is written, a string after
-/// `=` as what it stands for.
-fn written(rt: &impl AllocGlobal, text: &[u8]) -> Result<Vec<u8>, Fail> {
-    let tokens = lex(rt.alloc(), text)?;
-    let mut lines = Vec::new(rt.alloc());
-    for token in tokens.as_slice() {
-        let place = format!(in rt.alloc(); "{}:{} ", token.line, token.column)?;
-        lines.extend_from_slice(place.as_bytes())?;
-        match &token.kind {
-            TokenKind::Mark(byte) => lines.push(*byte)?,
-            TokenKind::Flag(true) => lines.extend_from_slice(b"true")?,
-            TokenKind::Flag(false) => lines.extend_from_slice(b"false")?,
-            TokenKind::Str(text) => {
-                lines.push(b'=')?;
-                lines.extend_from_slice(text.as_slice())?;
-            }
-        }
-        lines.push(b'\n')?;
-    }
-    Ok(lines)
-}
+const TOKENS: &str = "\
+3:1 : |# one\r^# two\r^:
+1:1 true 1:5 false |truefalse
+1:1 = ~\"#{ |' ~\"#{'
+1:1 =\\ 1:5 =x |'\\\\''x'
+1:1 { 1:3 =if 1:7 : 2:2 =A 2:6 } 3:1 , |{ 'if':\r^\t'A' } # end^,
+";
 
-#[test]
-fn tokens_have_their_places(rt: HostRuntime) -> Result<(), Fail> {
-    let cases: [(&[u8], &str); 6] = [
-        (b"#\xFF\x80\x00 'x' {\n", ""),
-        (b"# one\r\n# two\r\n:", "3:1 :\n"),
-        (b"truefalse", "1:1 true\n1:5 false\n"),
-        (b"' ~\"#{'", "1:1 = ~\"#{\n"),
-        (b"'\\\\''x'", "1:1 =\\\n1:5 =x\n"),
-        (
-            b"{ 'if':\r\n\t'A' } # end\n,",
-            "1:1 {\n1:3 =if\n1:7 :\n2:2 =A\n2:6 }\n3:1 ,\n",
-        ),
-    ];
-    for (text, lines) in cases {
-        let found = written(&rt, text)?;
-        assert_eq!(rt; found.as_slice(), lines.as_bytes());
+const FAULTS: &str = "\
+bad-byte 1 |{ 'a': \"b\" }
+bad-byte 3 |^^tru
+bad-byte 1 |trues
+bad-byte 1 |\x0B
+bad-byte 1 |'a\x7F'
+bad-byte 2 |# x^'a\tb'
+bad-escape 1 |'a\\n'
+bad-escape 2 |^'a\\^'
+bad-escape 1 |'\\
+unclosed 2 |{^'a: 1 }^'
+unclosed 1 |'a\\\\
+";
+
+/// Writes what a token is: a string after `=`, as what it stands for.
+fn put(out: &mut String, kind: &TokenKind) -> Result<(), Fail> {
+    match kind {
+        TokenKind::Mark(byte) => out.push(char::from(*byte))?,
+        TokenKind::Flag(true) => out.push_str("true")?,
+        TokenKind::Flag(false) => out.push_str("false")?,
+        TokenKind::Str(text) => {
+            out.push_str("=")?;
+            out.push_str(str::from_utf8(text.as_slice())?)?;
+        }
     }
     Ok(())
 }
 
-#[test]
-fn the_first_fault_has_its_line(rt: HostRuntime) -> Result<(), Fail> {
-    let cases: [(&[u8], LexFault); 11] = [
-        (b"{ 'a': \"b\" }", LexFault::BadByte(1)),
-        (b"\n\ntru", LexFault::BadByte(3)),
-        (b"trues", LexFault::BadByte(1)),
-        (b"\x0B", LexFault::BadByte(1)),
-        (b"'a\x7F'", LexFault::BadByte(1)),
-        (b"# x\n'a\tb'", LexFault::BadByte(2)),
-        (b"'a\\n'", LexFault::BadEscape(1)),
-        (b"\n'a\\\n'", LexFault::BadEscape(2)),
-        (b"'\\", LexFault::BadEscape(1)),
-        (b"{\n'a: 1 }\n'", LexFault::Unclosed(2)),
-        (b"'a\\\\", LexFault::Unclosed(1)),
-    ];
-    for (text, fault) in cases {
-        match lex(rt.alloc(), text) {
-            Ok(_) => assert!(rt; false),
-            Err(first) => assert!(rt; first == fault),
-        }
+/// The line and the column of each token, and what it is.
+fn all_shown(rt: &impl AllocGlobal, tokens: &[Token]) -> Result<String, Fail> {
+    let mut all = String::new(rt.alloc());
+    for token in tokens {
+        let place = format!(in rt.alloc(); "{}:{} ", token.line, token.column)?;
+        all.push_str(place.as_str())?;
+        put(&mut all, &token.kind)?;
+        all.push_str(" ")?;
     }
+    Ok(all)
+}
+
+fn word_of(fault: LexFault) -> &'static str {
+    match fault {
+        LexFault::BadByte(_) => "bad-byte",
+        LexFault::BadEscape(_) => "bad-escape",
+        LexFault::Unclosed(_) => "unclosed",
+        LexFault::Memory => "memory",
+    }
+}
+
+fn line_of(fault: LexFault) -> u32 {
+    match fault {
+        LexFault::BadByte(line) | LexFault::BadEscape(line) | LexFault::Unclosed(line) => line,
+        LexFault::Memory => 0,
+    }
+}
+
+fn told(rt: &impl AllocGlobal, fault: LexFault) -> Result<String, Fail> {
+    Ok(format!(in rt.alloc(); "{} {} ", word_of(fault), line_of(fault))?)
+}
+
+/// The tokens of the text, or its first fault.
+pub fn answer(rt: &impl AllocGlobal, text: &[u8]) -> Result<String, Fail> {
+    match lex(rt.alloc(), text) {
+        Ok(tokens) => all_shown(rt, tokens.as_slice()),
+        Err(fault) => told(rt, fault),
+    }
+}
+
+#[test]
+fn each_text_has_its_tokens_or_its_fault(rt: HostRuntime) -> Result<(), Fail> {
+    assert_eq!(rt; other_answers(&rt, Asked::Tokens, TOKENS)?.as_str(), "");
+    assert_eq!(rt; other_answers(&rt, Asked::Tokens, FAULTS)?.as_str(), "");
+    assert_eq!(rt; answer(&rt, b"#\xFF\x80\x00 'x' {\n")?.as_str(), "");
     Ok(())
 }

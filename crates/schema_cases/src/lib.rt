@@ -10,4 +10,6 @@ mod nesting;
 #[cfg(test)]
 mod parsing;
 #[cfg(test)]
+mod rows;
+#[cfg(test)]
 mod sealing;

@@ -1,13 +1,13 @@
 //! Texts that nest deeply, what they leave in memory, and objects of many keys.
 
-use crate::parsing::answer;
+use crate::parsing;
+use crate::rows::{Asked, other_answers};
 use std::fs;
-use std::process::Abort;
 use std::rt::Files;
 use std::test::Fail;
 
-/// Rows of an answer, and of a text by what stands before, the opener, what stands innermost, the
-/// closer, and what stands after.
+/// Each text by what stands before, the opener, what stands innermost, the closer, and what stands
+/// after.
 const NESTS: &str = "\
 ok 1 |{ 'pragma': { 'a': |[||]|} }
 ok 1 |{ 'pragma': { 'a': |[true,|[]|]|} }
@@ -27,26 +27,22 @@ fn repeat(text: &mut Vec<u8>, piece: &str) -> Result<(), Fail> {
 }
 
 /// The text of a row's parts, in which the opener and the closer stand so many times.
-fn nested(rt: &impl AllocGlobal, parts: &[&str]) -> Result<Vec<u8>, Fail> {
+fn nested(rt: &impl AllocGlobal, parts: &str) -> Result<Vec<u8>, Fail> {
     let mut text = Vec::new(rt.alloc());
-    for (i, part) in parts.iter().enumerate() {
-        if i == 2 || i == 4 {
+    for (i, part) in parts.split("|").enumerate() {
+        if i == 1 || i == 3 {
             repeat(&mut text, part)?;
-        } else if i > 0 {
+        } else {
             text.extend_from_slice(part.as_bytes())?;
         }
     }
     Ok(text)
 }
 
-fn each_has_its_answer(rt: &(impl AllocGlobal + Abort)) -> Result<(), Fail> {
-    for row in NESTS.lines() {
-        let parts = row.split("|").collect::<Vec<_>>(rt.alloc())?;
-        let text = nested(rt, parts.as_slice())?;
-        let given = format!(in rt.alloc(); "{} ", answer(rt, text.as_slice())?)?;
-        assert!(rt; row.starts_with(given.as_str()));
-    }
-    Ok(())
+/// How many expressions the text of the parts has, or its first fault.
+pub fn answer(rt: &impl AllocGlobal, parts: &str) -> Result<String, Fail> {
+    let text = nested(rt, parts)?;
+    parsing::answer(rt, text.as_slice())
 }
 
 /// How many pages of memory the process has in use.
@@ -60,9 +56,9 @@ fn pages(rt: &(impl Files + AllocGlobal)) -> Result<u64, Fail> {
 /// Of each text the expression or what was open takes some 40 MB, which is let go.
 #[test]
 fn nesting_has_no_bound_and_leaves_nothing(rt: HostRuntime) -> Result<(), Fail> {
-    each_has_its_answer(&rt)?;
+    assert_eq!(rt; other_answers(&rt, Asked::Nested, NESTS)?.as_str(), "");
     let before = pages(&rt)?;
-    each_has_its_answer(&rt)?;
+    assert_eq!(rt; other_answers(&rt, Asked::Nested, NESTS)?.as_str(), "");
     let after = pages(&rt)?;
     let more = after.saturating_sub(before);
     assert!(rt;
@@ -72,15 +68,22 @@ fn nesting_has_no_bound_and_leaves_nothing(rt: HostRuntime) -> Result<(), Fail> 
     Ok(())
 }
 
+/// A pragma of so many members of keys of one beginning, and one more.
+fn pragma(rt: &impl AllocGlobal, keys: u32, last: &str) -> Result<String, Fail> {
+    let mut text = String::new(rt.alloc());
+    text.push_str("{ 'pragma': {")?;
+    for key in 0..keys {
+        let member = format!(in rt.alloc(); "'a-common-prefix-{key}': true,")?;
+        text.push_str(member.as_str())?;
+    }
+    text.push_str(last)?;
+    Ok(text)
+}
+
 #[test]
 fn an_object_has_many_keys(rt: HostRuntime) -> Result<(), Fail> {
-    let mut text = Vec::from_slice(rt.alloc(), b"{ 'pragma': {")?;
-    for key in 0..200_000 {
-        let member = format!(in rt.alloc(); "'a-common-prefix-{}': true,", key)?;
-        text.extend_from_slice(member.as_bytes())?;
-    }
-    text.extend_from_slice(b"\n'a-common-prefix-7': true } }")?;
-    let given = answer(&rt, text.as_slice())?;
-    assert_eq!(rt; given.as_str(), "duplicate-key 2 a-common-prefix-7");
+    let text = pragma(&rt, 200_000, "\n'a-common-prefix-7': true } }")?;
+    let given = parsing::answer(&rt, text.as_bytes())?;
+    assert_eq!(rt; given.as_str(), "duplicate-key 2 a-common-prefix-7 ");
     Ok(())
 }

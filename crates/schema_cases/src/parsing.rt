@@ -1,11 +1,10 @@
 //! Texts of schemas, and the expressions or the first fault of each.
 
-use qapi_lex::lex;
-use qapi_tree::{Tree, TreeFault, TreeList, TreeRule, parse};
-use std::process::Abort;
+use crate::rows::{Asked, other_answers};
+use qapi_lex::{TokenList, lex};
+use qapi_tree::{Expr, Tree, TreeFault, TreeList, TreeRule, parse};
 use std::test::Fail;
 
-/// Rows of an answer, ` | ` and a text, in which `^` stands for a line's end.
 const TOKENS: &str = "\
 ok 0 | # a comment^# alone
 syntax 2  | {^'a'^^
@@ -77,62 +76,78 @@ pub fn word_of(rule: TreeRule) -> &'static str {
     }
 }
 
+fn tokens(rt: &impl AllocGlobal, text: &[u8]) -> Result<TokenList, Fail> {
+    Ok(lex(rt.alloc(), text)?)
+}
+
 fn read(rt: &impl AllocGlobal, text: &[u8]) -> Result<Result<TreeList, TreeFault>, Fail> {
-    let tokens = lex(rt.alloc(), text)?;
+    let tokens = tokens(rt, text)?;
     Ok(parse(rt.alloc(), &tokens))
+}
+
+fn counted(rt: &impl AllocGlobal, exprs: &TreeList) -> Result<String, Fail> {
+    Ok(format!(in rt.alloc(); "ok {} ", exprs.len())?)
+}
+
+fn told(rt: &impl AllocGlobal, fault: &TreeFault) -> Result<String, Fail> {
+    let name = str::from_utf8(fault.name.as_slice())?;
+    Ok(format!(in rt.alloc(); "{} {} {} ", word_of(fault.rule), fault.line, name)?)
 }
 
 /// How many expressions the text has, or its first fault.
 pub fn answer(rt: &impl AllocGlobal, text: &[u8]) -> Result<String, Fail> {
     match read(rt, text)? {
-        Ok(exprs) => Ok(format!(in rt.alloc(); "ok {}", exprs.as_slice().len())?),
-        Err(fault) => {
-            let name = str::from_utf8(fault.name.as_slice())?;
-            Ok(format!(in rt.alloc(); "{} {} {}", word_of(fault.rule), fault.line, name)?)
-        }
+        Ok(exprs) => counted(rt, &exprs),
+        Err(fault) => told(rt, &fault),
     }
-}
-
-/// The rows that have another answer.
-fn other_answers(rt: &impl AllocGlobal, rows: &str) -> Result<String, Fail> {
-    let mut others = String::new(rt.alloc());
-    for row in rows.lines() {
-        let mut parts = row.splitn(2, " |");
-        let wanted = parts.next().unwrap_or("");
-        let text = parts.next().unwrap_or("").replace(rt.alloc(), "^", "\n")?;
-        let given = answer(rt, text.as_bytes())?;
-        if given.as_str() != wanted {
-            others.push_str(row)?;
-            others.push_str("\n")?;
-        }
-    }
-    Ok(others)
 }
 
 #[test]
 fn each_text_has_its_answer(rt: HostRuntime) -> Result<(), Fail> {
-    assert_eq!(rt; other_answers(&rt, TOKENS)?.as_str(), "");
-    assert_eq!(rt; other_answers(&rt, KINDS)?.as_str(), "");
-    assert_eq!(rt; other_answers(&rt, SHAPES)?.as_str(), "");
-    assert_eq!(rt; other_answers(&rt, "ok 7 | {}\n")?.as_str(), "ok 7 | {}\n");
+    assert_eq!(rt;
+        other_answers(&rt, Asked::Expressions, TOKENS)?.as_str(),
+        ""
+    );
+    assert_eq!(rt; other_answers(&rt, Asked::Expressions, KINDS)?.as_str(), "");
+    assert_eq!(rt;
+        other_answers(&rt, Asked::Expressions, SHAPES)?.as_str(),
+        ""
+    );
+    let wrong = "ok 7 | {}\n";
+    assert_eq!(rt;
+        other_answers(&rt, Asked::Expressions, wrong)?.as_str(),
+        wrong
+    );
     Ok(())
+}
+
+/// Each key, with its value where that is a string.
+fn put_members(out: &mut Vec<u8>, expr: &Expr) -> Result<(), Fail> {
+    for member in expr.keys.as_slice() {
+        out.extend_from_slice(member.key.as_slice())?;
+        if let Tree::Str(text) = &member.tree {
+            out.extend_from_slice(text.as_slice())?;
+        }
+    }
+    Ok(())
+}
+
+/// The line of each expression, and its members.
+fn members(rt: &impl AllocGlobal, text: &[u8]) -> Result<Vec<u8>, Fail> {
+    let mut out = Vec::new(rt.alloc());
+    if let Ok(exprs) = read(rt, text)? {
+        for expr in exprs.as_slice() {
+            out.extend_from_slice(format!(in rt.alloc(); "{}", expr.line)?.as_bytes())?;
+            put_members(&mut out, expr)?;
+        }
+    }
+    Ok(out)
 }
 
 #[test]
 fn members_stand_in_their_order(rt: HostRuntime) -> Result<(), Fail> {
     let text = b"\n{ 'data': { 'b': 'c' },\n 'struct': 'E' }\n{ 'gen': true, 'command': 'x\\\\y' }";
-    let mut out = Vec::new(rt.alloc());
-    if let Ok(exprs) = read(&rt, text)? {
-        for expr in exprs.as_slice() {
-            out.extend_from_slice(format!(in rt.alloc(); "{}", expr.line)?.as_bytes())?;
-            for member in expr.keys.as_slice() {
-                out.extend_from_slice(member.key.as_slice())?;
-                if let Tree::Str(text) = &member.tree {
-                    out.extend_from_slice(text.as_slice())?;
-                }
-            }
-        }
-    }
+    let out = members(&rt, text)?;
     assert_eq!(rt; out.as_slice(), b"2datastructE4gencommandx\\y".as_slice());
     Ok(())
 }
