@@ -1,7 +1,8 @@
 ghost use Rattle.std.specs.Prelude.{◌≡◌, nat_le, true, false, cond, ◌||◌, IfOk, OnOk, OnErr};
+ghost use Rattle.std.specs.BTreeMap.{is_at};
 ghost use Rattle.std.specs.BTreeSet.{contains};
 ghost use Rattle.qm_throttle.specs.Keys.{key_order};
-ghost use Rattle.qm_throttle.specs.Deadlines.{has_due, is_listed, key_comes, SomeCome};
+ghost use Rattle.qm_throttle.specs.Deadlines.{due_order, has_due, is_listed, key_comes, SomeCome};
 ghost use Rattle.qm_throttle.specs.declared.due.Due.{Due};
 ghost use Rattle.qm_throttle.specs.Keys.{Key};
 
@@ -34,6 +35,14 @@ fn take_each(deadlines: &mut BTreeSet<Due>, nexts: &[Due])
     for due in nexts {
         let _ = deadlines.remove(due);
     }
+}
+
+/// Takes a deadline out.
+pub(crate) fn take_one(deadlines: &mut BTreeSet<Due>, due: Due)
+    ensures { (q : Due) →
+        has_due deadlines.new.keys q ≡ cond (is_at (due_order due) q) false (has_due deadlines.old.keys q) }
+{
+    let _ = deadlines.remove(&due);
 }
 
 /// Puts deadlines in that are not there. An error leaves those that were there before.

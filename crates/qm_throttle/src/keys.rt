@@ -8,15 +8,17 @@ ghost use Rattle.qm_throttle.specs.Keys.{key_order, key_total, key_by, printed_k
 use qm_base::{NoMemory, Text};
 use qm_json::Json;
 use qm_plan::Period;
+use smallvec::SmallVec;
 use std::alloc::Global;
 use std::cmp::Ordering;
 use std::marker::Model;
 
 /// What windows are told apart by: the event's name, and the printed values of its key members.
-/// Both stand in one text, so that it takes one look to compare two keys.
+/// Both stand in one text, and a short one in the key itself, so that it takes no look elsewhere to
+/// compare it.
 #[derive(Drop)]
 pub(crate) struct WindowKey {
-    bytes: Text,
+    bytes: SmallVec<u8, 24>,
     name_len: usize,
 }
 
@@ -28,9 +30,19 @@ impl Model for WindowKey {
 
     ghost coded = { key_code };
 
-    ghost view = { λ k. record { name = take k.name_len k.bytes; printed = drop k.name_len k.bytes } };
+    ghost view = { λ k. record { name = take k.name_len k.bytes.items; printed = drop k.name_len k.bytes.items } };
 
-    ghost invariant = { λ k. k.name_len ≤ length k.bytes };
+    ghost invariant = { λ k. k.name_len ≤ length k.bytes.items };
+}
+
+/// These bytes, in place where they are few.
+fn held(alloc: Global, bytes: &[u8]) -> Result<SmallVec<u8, 24>, NoMemory>
+    ensures { IfOk result (λ held. held.items ≡ bytes.now) }
+{
+    match SmallVec::from_slice(alloc, bytes) {
+        Ok(held) => Ok(held),
+        Err(_) => Err(NoMemory),
+    }
 }
 
 impl WindowKey {
@@ -50,7 +62,7 @@ impl WindowKey {
     pub(crate) fn copy(&self, alloc: Global) -> Result<WindowKey, NoMemory>
         ensures { IfOk result (λ copied. copied ≡ self.now) }
     {
-        let bytes = self.bytes.copy(alloc)?;
+        let bytes = held(alloc, self.bytes.as_slice())?;
         Ok(WindowKey {
             bytes,
             name_len: self.name_len,
@@ -61,9 +73,10 @@ impl WindowKey {
     pub(crate) fn of(alloc: Global, period: &Period, payload: &Json) -> Result<WindowKey, NoMemory>
         ensures { IfOk result (λ key. key ≡ key_by (Some period.now) payload.now) }
     {
-        let mut bytes = period.name.copy(alloc)?;
-        let name_len = bytes.len();
-        write_key(period.key.as_slice(), payload, &mut bytes)?;
+        let mut text = period.name.copy(alloc)?;
+        let name_len = text.len();
+        write_key(period.key.as_slice(), payload, &mut text)?;
+        let bytes = held(alloc, text.as_slice())?;
         Ok(WindowKey { bytes, name_len })
     }
 }

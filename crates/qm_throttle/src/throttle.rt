@@ -2,7 +2,7 @@ ghost use Rattle.std.specs.Prelude.{◌≡◌, ◌<◌, List, [], length, map, I
 ghost use Rattle.std.specs.Option.{option_to_list};
 ghost use Rattle.qm_json.specs.Cleanness.{are_distinct};
 ghost use Rattle.qm_throttle.specs.Steps.{Follows, Steps, Does, IsHeld};
-ghost use Rattle.qm_throttle.specs.Windows.{Call, Tick, event_of, raise_of, due_of};
+ghost use Rattle.qm_throttle.specs.Windows.{Call, Tick, event_of, raise_of, due_in, due_of};
 
 use crate::keys::WindowKey;
 use crate::sent::{Sent, SentList};
@@ -67,6 +67,7 @@ impl Throttle {
     /// The earliest deadline, in microseconds; `None` exactly where no window is open. It takes no
     /// memory.
     pub fn due(&self) -> Option<u128>
+        ensures windows { result ≡ due_in self.now.windows }
         ensures due { (calls : List Call) → Follows self.now calls → result ≡ due_of self.now.periods calls }
         ensures none { (result ≡ None) ↔ (self.now.windows ≡ []) }
     {

@@ -9,7 +9,7 @@ ghost use Rattle.qm_throttle.specs.Windows.{due_in};
 ghost use Rattle.qm_throttle.specs.Deadlines.{has_come, next_of, next_at};
 ghost use Rattle.qm_throttle.specs.Keys.{Key};
 
-use crate::deadlines::{come_keys, put_all, take_come};
+use crate::deadlines::{come_keys, put_all, take_come, take_one};
 use crate::due::Due;
 use crate::endings::{end_all, reserved};
 use crate::keys::WindowKey;
@@ -95,7 +95,7 @@ impl Windows {
         match insert(&mut self.map, key, window) {
             Ok(()) => Ok(()),
             Err(due) => {
-                let _ = self.deadlines.remove(&due);
+                take_one(&mut self.deadlines, due);
                 Err(NoMemory)
             }
         }
