@@ -1,5 +1,6 @@
 //! The lines that tell why a command line is not run.
 
+use super::USAGE;
 use crate::refusal::{Refusal, report};
 use qapi_lex::LexFault;
 use qapi_load::{LoadFault, LoadRule};
@@ -10,112 +11,119 @@ use qm_link::MemorySink;
 use std::alloc::Global;
 use std::test::Fail;
 
-/// Each rule of a schema's files, for the name `n` in line 7 of `d/a.json`.
-const LOADING: &[(LoadRule, &str)] = &[
-    (LoadRule::NoFile, "no-file n\n"),
-    (LoadRule::IncludeCycle, "include-cycle n\n"),
-    (LoadRule::TooManyFiles, "too-many-files n\n"),
-    (LoadRule::Lex(LexFault::BadByte(7)), "bad-byte\n"),
-    (LoadRule::Lex(LexFault::BadEscape(7)), "bad-escape\n"),
-    (LoadRule::Lex(LexFault::Unclosed(7)), "unclosed\n"),
-    (LoadRule::Tree(TreeRule::Syntax), "syntax\n"),
-    (LoadRule::Tree(TreeRule::UnknownKey), "unknown-key n\n"),
-    (LoadRule::Tree(TreeRule::MissingKey), "missing-key n\n"),
-    (LoadRule::Tree(TreeRule::DuplicateKey), "duplicate-key n\n"),
-    (LoadRule::Tree(TreeRule::WrongShape), "wrong-shape n\n"),
+/// Each rule of a schema's files.
+const LOADING: &[LoadRule] = &[
+    LoadRule::NoFile,
+    LoadRule::IncludeCycle,
+    LoadRule::TooManyFiles,
+    LoadRule::Lex(LexFault::BadByte(7)),
+    LoadRule::Lex(LexFault::BadEscape(7)),
+    LoadRule::Lex(LexFault::Unclosed(7)),
+    LoadRule::Tree(TreeRule::Syntax),
+    LoadRule::Tree(TreeRule::UnknownKey),
+    LoadRule::Tree(TreeRule::MissingKey),
+    LoadRule::Tree(TreeRule::DuplicateKey),
+    LoadRule::Tree(TreeRule::WrongShape),
 ];
+
+/// The status and the line of each, for the name `n` in line 7 of `d/a.json`.
+const LOADING_LINES: &str = "\
+3 error: schema d/a.json line 7: no-file n
+3 error: schema d/a.json line 7: include-cycle n
+3 error: schema d/a.json line 7: too-many-files n
+3 error: schema d/a.json line 7: bad-byte
+3 error: schema d/a.json line 7: bad-escape
+3 error: schema d/a.json line 7: unclosed
+3 error: schema d/a.json line 7: syntax
+3 error: schema d/a.json line 7: unknown-key n
+3 error: schema d/a.json line 7: missing-key n
+3 error: schema d/a.json line 7: duplicate-key n
+3 error: schema d/a.json line 7: wrong-shape n
+";
 
 /// Each rule of a schema's definitions.
-const CHECKING: &[(CheckRule, &str)] = &[
-    (CheckRule::BadName, "bad-name n\n"),
-    (CheckRule::Redefined, "redefined n\n"),
-    (CheckRule::NoSuccessResponse, "no-success-response n\n"),
-    (CheckRule::MemberClash, "member-clash n\n"),
-    (CheckRule::UnknownType, "unknown-type n\n"),
-    (CheckRule::BadBase, "bad-base n\n"),
-    (CheckRule::BadDiscriminator, "bad-discriminator n\n"),
-    (CheckRule::UnknownBranch, "unknown-branch n\n"),
-    (CheckRule::KindClash, "kind-clash n\n"),
-    (CheckRule::BadData, "bad-data n\n"),
-    (CheckRule::BaseCycle, "base-cycle n\n"),
+const CHECKING: &[CheckRule] = &[
+    CheckRule::BadName,
+    CheckRule::Redefined,
+    CheckRule::NoSuccessResponse,
+    CheckRule::MemberClash,
+    CheckRule::UnknownType,
+    CheckRule::BadBase,
+    CheckRule::BadDiscriminator,
+    CheckRule::UnknownBranch,
+    CheckRule::KindClash,
+    CheckRule::BadData,
+    CheckRule::BaseCycle,
 ];
 
-const FRONT: &[u8] = b"error: schema d/a.json line 7: ";
+const CHECKING_LINES: &str = "\
+3 error: schema d/a.json line 7: bad-name n
+3 error: schema d/a.json line 7: redefined n
+3 error: schema d/a.json line 7: no-success-response n
+3 error: schema d/a.json line 7: member-clash n
+3 error: schema d/a.json line 7: unknown-type n
+3 error: schema d/a.json line 7: bad-base n
+3 error: schema d/a.json line 7: bad-discriminator n
+3 error: schema d/a.json line 7: unknown-branch n
+3 error: schema d/a.json line 7: kind-clash n
+3 error: schema d/a.json line 7: bad-data n
+3 error: schema d/a.json line 7: base-cycle n
+";
 
-/// The status of a refusal, and whether this was put.
-fn told(alloc: Global, refusal: &Refusal, front: &[u8], back: &str) -> (u8, bool) {
+/// The status of a refusal, a blank, and what was put.
+fn told(alloc: Global, refusal: &Refusal) -> Result<String, Fail> {
     let mut sink = MemorySink::new(alloc, CallList::new(alloc));
     let status = report(alloc, refusal, &mut sink);
-    let taken = sink.taken();
-    let whole = taken.starts_with(front)
-        && taken.ends_with(back.as_bytes())
-        && taken.len() == front.len().saturating_add(back.len());
-    (status, whole)
+    Ok(format!(in alloc; "{} {}", status, str::from_utf8(sink.taken())?)?)
+}
+
+fn told_loading(alloc: Global, rule: LoadRule) -> Result<String, Fail> {
+    let fault = LoadFault {
+        rule,
+        file: Text::of(alloc, b"d/a.json")?,
+        line: 7,
+        name: Text::of(alloc, b"n")?,
+    };
+    told(alloc, &Refusal::Schema(fault))
+}
+
+fn told_checking(alloc: Global, rule: CheckRule, name: &[u8]) -> Result<String, Fail> {
+    let fault = CheckFault {
+        rule,
+        file: Text::of(alloc, b"d/a.json")?,
+        line: 7,
+        name: Text::of(alloc, name)?,
+    };
+    told(alloc, &Refusal::Check(fault))
 }
 
 #[test]
 fn each_rule_has_its_line(rt: HostRuntime) -> Result<(), Fail> {
-    let alloc = rt.alloc();
-    for (rule, line) in LOADING {
-        let fault = LoadFault {
-            rule: *rule,
-            file: Text::of(alloc, b"d/a.json")?,
-            line: 7,
-            name: Text::of(alloc, b"n")?,
-        };
-        assert!(rt;
-            told(alloc, &Refusal::Schema(fault), FRONT, line) == (3, true),
-            "{line}"
-        );
+    let mut lines = String::new(rt.alloc());
+    for rule in LOADING {
+        lines.push_str(told_loading(rt.alloc(), *rule)?.as_str())?;
     }
-    for (rule, line) in CHECKING {
-        let fault = CheckFault {
-            rule: *rule,
-            file: Text::of(alloc, b"d/a.json")?,
-            line: 7,
-            name: Text::of(alloc, b"n")?,
-        };
-        assert!(rt;
-            told(alloc, &Refusal::Check(fault), FRONT, line) == (3, true),
-            "{line}"
-        );
+    assert_eq!(rt; lines.as_str(), LOADING_LINES);
+    let mut lines = String::new(rt.alloc());
+    for rule in CHECKING {
+        lines.push_str(told_checking(rt.alloc(), *rule, b"n")?.as_str())?;
     }
-    Ok(())
-}
-
-#[test]
-fn an_empty_name_leaves_a_blank(rt: HostRuntime) -> Result<(), Fail> {
-    let alloc = rt.alloc();
-    let fault = CheckFault {
-        rule: CheckRule::BadName,
-        file: Text::of(alloc, b"d/a.json")?,
-        line: 7,
-        name: Text::new(alloc),
-    };
-    assert!(rt; told(alloc, &Refusal::Check(fault), FRONT, "bad-name \n") == (3, true));
+    assert_eq!(rt; lines.as_str(), CHECKING_LINES);
     Ok(())
 }
 
 #[test]
 fn other_refusals(rt: HostRuntime) -> Result<(), Fail> {
     let alloc = rt.alloc();
-    let name = Text::of(alloc, b"b.json")?;
-    assert!(rt;
-        told(
-            alloc,
-            &Refusal::Library(name),
-            b"error: cannot read ",
-            "b.json\n"
-        ) == (6, true)
+    let nameless = told_checking(alloc, CheckRule::BadName, b"")?;
+    assert_eq!(rt;
+        nameless.as_str(),
+        "3 error: schema d/a.json line 7: bad-name \n"
     );
-    assert!(rt;
-        told(
-            alloc,
-            &Refusal::Words,
-            b"error: usage: qmpd check|introspect|replay SCRIPT|",
-            "serve SOCKET|drill N [--schema F] [--bind F] [--define A,B] [--journal N] [--workers N]\n"
-        ) == (2, true)
-    );
-    assert!(rt; told(alloc, &Refusal::Memory, b"", "") == (1, true));
+    let unread = told(alloc, &Refusal::Library(Text::of(alloc, b"b.json")?))?;
+    assert_eq!(rt; unread.as_str(), "6 error: cannot read b.json\n");
+    let outside = told(alloc, &Refusal::Words)?;
+    assert!(rt; outside.as_str().strip_prefix("2 ") == Some(USAGE));
+    assert_eq!(rt; told(alloc, &Refusal::Memory)?.as_str(), "1 ");
     Ok(())
 }
