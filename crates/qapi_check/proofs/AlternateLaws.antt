@@ -1,10 +1,9 @@
 -- Alternatives of definitions without a fault are told apart.
-use Rattle.std.proofs.Common.{◌≡◌, ◌<◌, ◌≤◌, ◌+◌, ◌||◌, ℕ, zero, Bool, true, false, cond, List, [], ◌∷◌, length, map, get_or, Option, Some, None, All, refl, sym, ap, ◌∙◌, subst, arith}
+use Rattle.std.proofs.Common.{◌≡◌, ◌<◌, ℕ, Bool, true, false, cond, List, [], ◌∷◌, length, map, get_or, Option, Some, None, All, refl, sym, ap, ◌∙◌, subst, arith}
 use Rattle.std.specs.{List.AllPairs, Option.IsSome}
 use Rattle.std.proofs.lemmas.List.{get_or-map, length-map, Elements.All-map}
-use Rattle.qapi_types.specs.declared.kind.{JsonKind.JsonKind, Kind.Kind}
+use Rattle.qapi_types.specs.declared.kind.{JsonKind.JsonKind}
 use Rattle.qapi_types.specs.declared.kind.JsonKind.TheVariants as json
-use Rattle.qapi_types.specs.declared.kind.Kind.TheVariants as kinds
 use Rattle.qapi_types.specs.{Goodness.AreToldApart, Goodness.HasApartAlternatives, Types.json_kind_of, Types.kind_of}
 use Rattle.qapi_define.specs.declared.definition.{Definition.Definition, Sort.Sort, Variant.Variant}
 use Rattle.qapi_define.specs.declared.definition.Sort.TheVariants as sorts
@@ -63,7 +62,7 @@ told-apart defs d names i r a = (
         let f = get_or-map (λ (v : Variant). type_number (numbering_of defs) v.of) (v ∷ vs) x v e p in
         let g = get_or-map (λ (v : Variant). type_number (numbering_of defs) v.of) (v ∷ vs) y v e q in
         λ h. apart (get_or (v ∷ vs) x v) (get_or (v ∷ vs) y v) (sub _ (in-get_or (v ∷ vs) x v p)) (sub _ (in-get_or (v ∷ vs) y v q)) (u x y v l q)
-            (ap (λ (t : ℕ). json_kind_of (kind_of (kinds_of (numbering_of defs) defs) t)) (sym f) ∙ h ∙ ap (λ (t : ℕ). json_kind_of (kind_of (kinds_of (numbering_of defs) defs) t)) g))
+        (ap (λ (t : ℕ). json_kind_of (kind_of (kinds_of (numbering_of defs) defs) t)) (sym f) ∙ h ∙ ap (λ (t : ℕ). json_kind_of (kind_of (kinds_of (numbering_of defs) defs) t)) g))
 
 own-apart : (defs : List Definition) (s : Sort) (t : ℕ) (d : Definition) → d.sort ≡ s → names_pass defs ≡ None → In d defs → IsReferring defs d → HasApartAlternatives (kinds_of (numbering_of defs) defs) (kind_defined (numbering_of defs) s t d)
 own-apart defs sorts.Alternate t d e names i r = told-apart defs d names i r (ap is_alternate_sort e)

@@ -1,30 +1,30 @@
 -- Types of definitions without a fault are on no cycle of branches, and no name stands twice along them.
 use Rattle.std.proofs.Common.{◌≡◌, ◌<◌, ◌≤◌, ◌+◌, ◌-◌, ◌&&◌, ◌||◌, ℕ, zero, suc, Bool, true, false, cond, nat_eq, List, [], ◌∷◌, ◌++◌, length, map, get_or, All, Option, Some, None, is_some, option_to_list, slice_get, option_and_then, unwrap_or, refl, sym, ap, ◌∙◌, subst, inl, inr, arith, append_assoc}
-use Rattle.std.specs.{List.AllByRecursion, List.filter, Option.option_or}
+use Rattle.std.specs.{List.AllByRecursion}
 use Rattle.std.proofs.Math.ListN.{get_or-map}
-use Rattle.std.proofs.lemmas.{Bool.cases_lt, Bool.Decides.Decides-eqb, Option.slice_get_within}
+use Rattle.std.proofs.lemmas.{Bool.cases_lt, Bool.Decides.Decides-eqb}
 use Rattle.std.proofs.lemmas.List.{get_or_past, length-append, length-map, Elements.filter_agree}
 use Rattle.qapi_types.specs.declared.kind.{Branch.Branch, Kind.Kind, MemberDef.MemberDef, ValueDef.ValueDef}
 use Rattle.qapi_types.specs.declared.kind.Kind.TheVariants as kinds
 use Rattle.qapi_types.specs.{Chains.has, Chains.row_of, Chains.Refers, Chains.Leads, Chains.by_one, Chains.and_one, Chains.IsInside, Chains.NoneOnCycle}
 use Rattle.qapi_types.specs.Choices.{AllApart, Along, AreApart, Table, again, names_of, stays, takes}
-use Rattle.qapi_types.specs.{Goodness.choices_of, Goodness.HasApartValues, Types.branch_types, Types.kind_of, Types.member_names, Types.value_names}
+use Rattle.qapi_types.specs.{Goodness.choices_of, Goodness.HasApartValues, Types.branch_types, Types.kind_of, Types.member_names}
 use Rattle.qapi_types.proofs.{ChainLaws.row-holds, ChoiceLaws.again-none, FaultLaws.names-at}
 use Rattle.qapi_define.specs.declared.definition.{Definition.Definition, EnumValue.EnumValue, Member.Member, Sort.Sort, Variant.Variant}
 use Rattle.qapi_define.specs.declared.definition.Sort.TheVariants as sorts
 use Rattle.qapi_define.specs.Saying.{discriminator_of, first_some, members_of, values_of, variants_of}
-use Rattle.qapi_rules.specs.declared.{fault.CheckFault.CheckFault, fault.CheckRule.TheVariants.MemberClash}
-use Rattle.qapi_rules.specs.{Blames.fault, Blames.over, Cycles.cycles_pass, Cycles.branches_of, Meanings.is_alternate_sort, Meanings.is_union_sort, NamesRules.names_pass, References.references_pass}
+use Rattle.qapi_rules.specs.declared.{fault.CheckRule.TheVariants.MemberClash}
+use Rattle.qapi_rules.specs.{Blames.over, Cycles.cycles_pass, Cycles.branches_of, Meanings.is_alternate_sort, Meanings.is_union_sort, NamesRules.names_pass, References.references_pass}
 use Rattle.qapi_number.specs.declared.{implicit.ImplicitType.ImplicitType, numbering.Numbering.Numbering}
 use Rattle.qapi_number.specs.declared.implicit.ImplicitType.TheVariants as implicit
-use Rattle.qapi_number.specs.Kinds.{all_members, base_number, branch_def, builtin_kinds, defined_kinds, implicit_kind, kind_defined, kinds_of, member_def, member_defs, members_at, qtype_names, tag_names, tag_of, value_defs}
+use Rattle.qapi_number.specs.Kinds.{all_members, base_number, branch_def, builtin_kinds, implicit_kind, kind_defined, kinds_of, member_def, member_defs, members_at, qtype_names, tag_names, tag_of, value_defs}
 use Rattle.qapi_number.specs.{Implicit.implicit_types_of, Numbering.number_of_implicit, Numbering.numbering_of, Numbering.type_number, TypeNames.is_type_sort, TypeNames.number_of_name, TypeNames.types_of}
 use Rattle.qapi_check.specs.Clashes.{is_type_sort as is_checked_sort}
 use Rattle.qapi_check.specs.{Clashes.again_in, Clashes.clash_of, Clashes.clashes_pass, Clashes.clashes_rule, Clashes.defines_type, Clashes.type_definitions, Walking.LeadsTo, Lawful.has_lawful_branches, Lawful.is_none}
-use Rattle.qapi_check.proofs.ListLaws.{In, at-in, by-recursion, in-get_or, in-left, in-map, in-right, map-in, or-none, past-none, first_some-none}
+use Rattle.qapi_check.proofs.ListLaws.{In, at-in, by-recursion, in-get_or, in-map, in-right, map-in, or-none, past-none, first_some-none}
 use Rattle.qapi_check.proofs.{NamedLaws.IsOwn, NamedLaws.own-at, NameLaws.fault-none, NameLaws.members-apart, NameLaws.no-names, NameLaws.values-apart}
 use Rattle.qapi_check.proofs.NumberLaws.{kind-builtin, kind-defined, kind-implicit, kinds-all, kinds-long}
-use Rattle.qapi_check.proofs.ReferenceLaws.{IsReferring, referring}
+use Rattle.qapi_check.proofs.ReferenceLaws.{referring}
 use Rattle.qapi_check.proofs.GraphLaws.{branch-may, has-in, in-has, none-numbered, numbered_graph, numbered_references, row-at}
 use Rattle.qapi_check.proofs.TrailLaws.{goes_on, no_trail, too_long}
 

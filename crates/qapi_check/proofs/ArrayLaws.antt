@@ -1,19 +1,18 @@
 -- Each array that a branch or an alternative refers to has its type.
-use Rattle.std.proofs.Common.{◌≡◌, ◌<◌, ◌≤◌, ◌+◌, ◌||◌, ◌==◌, ℕ, zero, suc, Bool, true, false, cond, nat_eq, List, [], ◌∷◌, ◌++◌, length, map, Option, Some, None, fold, position, slice_get, unwrap_or, option_map, refl, sym, ap, ◌∙◌, subst, inl, inr, arith}
+use Rattle.std.proofs.Common.{◌≡◌, ◌+◌, ◌||◌, ℕ, Bool, true, false, cond, List, [], ◌∷◌, ◌++◌, length, Option, Some, fold, position, slice_get, unwrap_or, option_map, refl, sym, ap, ◌∙◌, subst, inl, inr}
 use Rattle.std.specs.List.{enumerate_from, flat_map, list_any}
-use Rattle.std.proofs.lemmas.{Bool.Decides.Decides-eqb, List.Folds.list_any-append, List.length-append, List.length-map}
-use Rattle.qapi_types.specs.declared.kind.Kind.{Kind}
+use Rattle.std.proofs.lemmas.{Bool.Decides.Decides-eqb, List.Folds.list_any-append}
 use Rattle.qapi_types.specs.declared.kind.Kind.TheVariants as kinds
 use Rattle.qapi_types.specs.Types.{kind_of}
-use Rattle.qapi_define.specs.declared.definition.{Definition.Definition, Part.Part, TypeName.TypeName, Variant.Variant}
+use Rattle.qapi_define.specs.declared.definition.{Definition.Definition, Variant.Variant}
 use Rattle.qapi_define.specs.declared.definition.Part.TheVariants as part
 use Rattle.qapi_define.specs.Saying.{variants_of}
 use Rattle.qapi_number.specs.declared.implicit.ImplicitType.{ImplicitType}
 use Rattle.qapi_number.specs.declared.implicit.ImplicitType.TheVariants as implicit
-use Rattle.qapi_number.specs.Implicit.{same, implied, implied_by_variants, implied_by_part, implied_by, lacks_data, with_implicit, implicit_types_of}
+use Rattle.qapi_number.specs.Implicit.{same, implied, implied_by_part, implied_by, lacks_data, with_implicit, implicit_types_of}
 use Rattle.qapi_number.specs.Kinds.{implicit_kind, kinds_of}
 use Rattle.qapi_number.specs.Numbering.{number_of_implicit, numbering_of, type_number}
-use Rattle.qapi_number.specs.TypeNames.{builtin_names, number_of_name, type_names, types_of}
+use Rattle.qapi_number.specs.TypeNames.{number_of_name, type_names, types_of}
 use Rattle.qapi_check.proofs.ListLaws.{In, at-found, found, in-enumerated, in-flat_map, in-left}
 use Rattle.qapi_check.proofs.{NameLaws.variants-part, NumberLaws.kind-implicit, NumberLaws.names-long}
 
@@ -81,9 +80,9 @@ array-kind defs d v i j a =
     let p : (p : ℕ) × (position (same (implicit.Array e)) (implicit_types_of defs) ≡ Some p) = found (same (implicit.Array e)) (implicit_types_of defs) (needed defs d v i j a) in
     let x : (x : ImplicitType) × (slice_get (implicit_types_of defs) p.0 ≡ Some x) × (same (implicit.Array e) x ≡ true) = at-found (same (implicit.Array e)) p.0 (implicit_types_of defs) p.1 in
     let number : type_number (numbering_of defs) v.of ≡ length (types_of defs) + 16 + p.0 =
-        ap (λ b. cond b (number_of_implicit (numbering_of defs) (implicit.Array e)) e) a
-        ∙ ap (λ (o : Option ℕ). unwrap_or (option_map (λ q. length (type_names (types_of defs)) + q) o) 0) p.1
-        ∙ ap (λ (m : ℕ). m + p.0) (names-long (types_of defs)) in
+    ap (λ b. cond b (number_of_implicit (numbering_of defs) (implicit.Array e)) e) a
+    ∙ ap (λ (o : Option ℕ). unwrap_or (option_map (λ q. length (type_names (types_of defs)) + q) o) 0) p.1
+    ∙ ap (λ (m : ℕ). m + p.0) (names-long (types_of defs)) in
     ap (λ (t : ℕ). kind_of (kinds_of (numbering_of defs) defs) t) number
     ∙ kind-implicit (numbering_of defs) defs p.0 x.0 x.1
     ∙ ap (implicit_kind (numbering_of defs) defs) (same-array e x.0 x.2)

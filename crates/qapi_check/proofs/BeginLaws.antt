@@ -1,5 +1,5 @@
 -- A table begins with what stands first among its definitions.
-use Rattle.std.proofs.Common.{◌≡◌, ◌+◌, ℕ, suc, Bool, List, [], ◌∷◌, ◌++◌, length, map, Option, Some, None, Result, Ok, Err, IfOk, refl, sym, ap, ◌∙◌, subst, arith, append_assoc}
+use Rattle.std.proofs.Common.{◌≡◌, ◌+◌, ℕ, suc, Bool, List, [], ◌∷◌, ◌++◌, length, map, Option, Some, None, Result, IfOk, sym, ap, ◌∙◌, subst, arith, append_assoc}
 use Rattle.std.specs.List.{enumerate_from, filter, flat_map}
 use Rattle.std.proofs.lemmas.{Grind.flat_map-append, List.map-append, List.Elements.filter-append}
 use Rattle.qapi_types.specs.declared.{kind.Kind.Kind, parts.Parts.Parts}
@@ -7,9 +7,9 @@ use Rattle.qapi_define.specs.declared.definition.Definition.{Definition}
 use Rattle.qapi_load.specs.declared.source.Source.{Source}
 use Rattle.qapi_rules.specs.declared.fault.CheckFault.{CheckFault}
 use Rattle.qapi_number.specs.declared.numbering.Numbering.{Numbering}
-use Rattle.qapi_number.specs.Kinds.{builtin_kinds, implicit_kind, kind_defined, kinds_of}
+use Rattle.qapi_number.specs.Kinds.{builtin_kinds, implicit_kind, kind_defined}
 use Rattle.qapi_number.specs.{Numbering.numbering_of, Prelude.prelude, Prelude.without_prelude_names}
-use Rattle.qapi_number.specs.PartsOf.{calls_of, command_in, commands_of, event_in, events_of, is_call_sort, parts_of}
+use Rattle.qapi_number.specs.PartsOf.{calls_of, command_in, event_in, is_call_sort, parts_of}
 use Rattle.qapi_number.specs.TypeNames.{is_type_sort, types_of}
 use Rattle.qapi_define.specs.Definitions.{definitions_of}
 use Rattle.qapi_check.specs.Beginning.{BeginsWith, BeginsWithPrelude, first_kinds}

@@ -1,7 +1,6 @@
 -- Commands and events: their places, and their names.
-use Rattle.std.proofs.Common.{◌≡◌, ◌<◌, ◌≤◌, ◌+◌, ℕ, zero, suc, Bool, true, false, cond, List, [], ◌∷◌, ◌++◌, map, refl, sym, ap, ◌∙◌, subst, arith, bytes_eq}
+use Rattle.std.proofs.Common.{◌≡◌, ◌≤◌, ◌+◌, ℕ, Bool, true, false, cond, List, [], ◌∷◌, ◌++◌, map, refl, ap, arith, bytes_eq}
 use Rattle.std.specs.List.{enumerate_from, filter, flat_map}
-use Rattle.std.proofs.lemmas.List.{map-append}
 use Rattle.qapi_types.specs.declared.parts.{CommandDef.CommandDef, EventDef.EventDef}
 use Rattle.qapi_types.specs.{Choices.AreApart, Choices.times, Goodness.AreDealt, Goodness.none, Goodness.first, Goodness.second, Goodness.command_places, Goodness.event_places}
 use Rattle.qapi_types.proofs.ChoiceLaws.{times-append}
@@ -9,7 +8,7 @@ use Rattle.qapi_define.specs.declared.definition.{Definition.Definition, Sort.So
 use Rattle.qapi_define.specs.declared.definition.Sort.TheVariants as sorts
 use Rattle.qapi_number.specs.declared.numbering.Numbering.{Numbering}
 use Rattle.qapi_number.specs.Numbering.{numbering_of}
-use Rattle.qapi_number.specs.PartsOf.{is_call_sort, calls_of, command_def, command_in, commands_of, event_def, event_in, events_of}
+use Rattle.qapi_number.specs.PartsOf.{is_call_sort, command_in, commands_of, event_in, events_of}
 
 abbrev Calls : Type 0
 Calls = List (ℕ × (ℕ × Definition))

@@ -1,5 +1,5 @@
 -- Where no pass has a fault, the parts of lawful definitions are good.
-use Rattle.std.proofs.Common.{◌≡◌, ◌<◌, ◌++◌, ℕ, true, List, length, map, All, Option, None, Some, slice_get, refl, sym, ◌∙◌, subst}
+use Rattle.std.proofs.Common.{◌≡◌, ◌<◌, ℕ, true, List, length, map, All, Option, None, Some, slice_get, refl, sym, ◌∙◌, subst}
 use Rattle.std.proofs.lemmas.List.{length-map, Elements.All-map, Elements.All-nil, Elements.All-weaker}
 use Rattle.qapi_types.specs.declared.kind.{Branch.Branch, Kind.Kind}
 use Rattle.qapi_types.specs.declared.kind.Kind.TheVariants as kinds
@@ -9,7 +9,7 @@ use Rattle.qapi_types.specs.Goodness.{HasBranches, HasPositions, HasTag, IsCount
 use Rattle.qapi_types.specs.Types.{branch_types}
 use Rattle.qapi_define.specs.declared.definition.Definition.{Definition}
 use Rattle.qapi_rules.specs.{Cycles.cycles_pass, NamesRules.names_pass, References.references_pass}
-use Rattle.qapi_number.specs.{Kinds.kinds_of, Numbering.numbering_of, PartsOf.parts_of}
+use Rattle.qapi_number.specs.{PartsOf.parts_of}
 use Rattle.std.specs.Option.{option_or}
 use Rattle.qapi_rules.specs.declared.fault.CheckFault.{CheckFault}
 use Rattle.qapi_check.specs.{Checking.first_fault, Clashes.clashes_pass, Lawful.AreLawful, Lawful.has_lawful_branches, Passes.clash_fault, Passes.cycle_fault, Passes.early_fault, Passes.names_fault, Passes.numbered, Passes.references_fault}
@@ -40,7 +40,7 @@ each defs h d i =
 inner : (defs : List Definition) → IsInside (map branch_types (all_kinds defs))
 inner defs = All-map (λ row. All (λ b. b < length (map branch_types (all_kinds defs))) row) branch_types (all_kinds defs)
     (All-weaker (RefersBelow (length (all_kinds defs))) (λ kind. All (λ b. b < length (map branch_types (all_kinds defs))) (branch_types kind))
-        (λ kind k. subst (λ (n : ℕ). All (λ b. b < n) (branch_types kind)) (sym (length-map (all_kinds defs) branch_types)) (below (length (all_kinds defs)) kind k)) (all_kinds defs) (types-refer defs))
+    (λ kind k. subst (λ (n : ℕ). All (λ b. b < n) (branch_types kind)) (sym (length-map (all_kinds defs) branch_types)) (below (length (all_kinds defs)) kind k)) (all_kinds defs) (types-refer defs))
 
 free : (defs : List Definition) → AreLawful defs → names_pass defs ≡ None → references_pass defs ≡ None → cycles_pass defs ≡ None → NoneOnCycle (map branch_types (all_kinds defs)) (length (all_kinds defs))
 free defs lawful names references cycles = no-cycle defs names references (each defs lawful) cycles

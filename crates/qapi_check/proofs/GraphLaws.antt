@@ -1,14 +1,14 @@
 -- Bases and branches by the numbers of types: what definitions without a cycle give.
-use Rattle.std.proofs.Common.{◌≡◌, ◌<◌, ◌≤◌, ◌+◌, ◌||◌, ◌&&◌, ℕ, zero, suc, Bool, true, false, not, cond, nat_eq, List, [], ◌∷◌, ◌++◌, length, map, get_or, Option, Some, None, option_to_list, slice_get, option_map, option_and_then, unwrap_or, refl, sym, ap, ◌∙◌, subst, inl, inr, arith}
-use Rattle.std.specs.{List.cons_option, List.filter_map, List.flat_map, List.list_any}
+use Rattle.std.proofs.Common.{◌≡◌, ◌<◌, ◌+◌, ◌||◌, ◌&&◌, ℕ, zero, suc, Bool, true, false, not, cond, nat_eq, List, [], ◌∷◌, ◌++◌, length, map, Option, Some, None, option_to_list, slice_get, option_map, option_and_then, unwrap_or, refl, sym, ap, ◌∙◌, subst, inl, inr, arith}
+use Rattle.std.specs.{List.cons_option, List.filter_map, List.flat_map}
 use Rattle.std.proofs.lemmas.{Bool.cases_lt, Bool.Decides.Decides-eqb, Grind.flat_map-append, Option.get_or_from_slice_get, Option.slice_get_within}
 use Rattle.std.proofs.lemmas.List.{append-nil, get_or-map, get_or_past, length-map}
 use Rattle.qapi_types.specs.{Chains.has, Chains.row_of, Chains.Refers, Chains.Leads, Chains.by_one, Chains.and_one, Chains.NoneOnCycle, Lookups.place_of}
 use Rattle.qapi_types.proofs.ChainLaws.{either}
 use Rattle.qapi_define.specs.declared.definition.{Definition.Definition, Member.Member, Sort.Sort, Variant.Variant}
 use Rattle.qapi_define.specs.declared.definition.Sort.TheVariants as sorts
-use Rattle.qapi_define.specs.Saying.{base_members_of, base_of, members_of, variants_of}
-use Rattle.qapi_rules.specs.Cycles.{branches_of, cycles_pass, places_of, reference_graph, references_of, referred}
+use Rattle.qapi_define.specs.Saying.{base_members_of, base_of, variants_of}
+use Rattle.qapi_rules.specs.Cycles.{branches_of, cycles_pass, reference_graph, references_of, referred}
 use Rattle.qapi_rules.specs.Meanings.{Entity, nothing, built_in, defined, definition_of, entity_of, is_alternate_sort, is_struct, is_type, is_union, is_union_sort, names_of}
 use Rattle.qapi_rules.specs.NamesRules.{names_pass}
 use Rattle.qapi_rules.specs.References.{base_definition, line_from, may_be_alternative, may_be_branch, members_in_line, members_of_base, own_members, references_pass, unless}
@@ -16,7 +16,7 @@ use Rattle.qapi_rules.proofs.CycleLaws.{none_on_cycle}
 use Rattle.qapi_number.specs.Kinds.{all_members, base_at, base_number, bases_of, line_from as numbered_line, own_members as written_members, own_members_at}
 use Rattle.qapi_number.specs.TypeNames.{number_of_name, type_names, types_of}
 use Rattle.qapi_check.specs.Walking.{LeadsTo}
-use Rattle.qapi_check.proofs.ListLaws.{In, any-in, in-either, in-flat_map, in-left, in-map, in-right, map-in, past-none}
+use Rattle.qapi_check.proofs.ListLaws.{In, any-in, in-either, in-left, in-map, in-right, map-in, past-none}
 use Rattle.qapi_check.proofs.NamedLaws.{IsOwn, Named, own, given, named-type, number-of, own-at}
 use Rattle.qapi_check.proofs.ReferenceLaws.{IsReferring, referring, unless-none, variant-may, variant-type}
 use Rattle.qapi_check.proofs.TrailLaws.{goes_on, no_trail, too_long}

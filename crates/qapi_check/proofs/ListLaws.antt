@@ -1,6 +1,6 @@
 -- What stands in a list, and what is found in it.
-use Rattle.std.proofs.Common.{◌≡◌, ◌<◌, ◌≤◌, ◌+◌, ◌||◌, ◌⊎◌, ℕ, zero, suc, Bool, true, false, not, cond, List, [], ◌∷◌, ◌++◌, length, map, get_or, Option, Some, None, slice_get, position, refl, sym, ap, ◌∙◌, subst, inl, inr, arith, add-one, bytes_eq, All}
-use Rattle.std.specs.{List.AllByRecursion, List.enumerate_from, List.filter, List.flat_map, List.list_any, List.position_from, Option.is_some, Option.option_or}
+use Rattle.std.proofs.Common.{◌≡◌, ◌<◌, ◌≤◌, ◌+◌, ◌||◌, ◌⊎◌, ℕ, zero, suc, Bool, true, false, cond, List, [], ◌∷◌, ◌++◌, length, map, get_or, Option, Some, None, slice_get, position, refl, sym, ap, ◌∙◌, subst, inl, inr, arith, All}
+use Rattle.std.specs.{List.AllByRecursion, List.enumerate_from, List.filter, List.flat_map, List.list_any, List.position_from, Option.option_or}
 use Rattle.std.proofs.lemmas.{Iterator.Adapters.position_from-zero, Option.none-some}
 use Rattle.qapi_define.specs.Saying.{first_some}
 use Rattle.qapi_rules.specs.Blames.{over}

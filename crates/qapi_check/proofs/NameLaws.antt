@@ -1,15 +1,15 @@
 -- What definitions without a fault of names give: names that stand once.
-use Rattle.std.proofs.Common.{◌≡◌, ◌<◌, ◌≤◌, ◌+◌, ◌||◌, ℕ, Bool, true, false, cond, List, [], ◌∷◌, ◌++◌, map, Option, Some, None, is_some, unwrap_or, refl, sym, ap, ◌∙◌, subst, arith, append_assoc, append-nil}
+use Rattle.std.proofs.Common.{◌≡◌, ℕ, Bool, true, false, cond, List, [], ◌∷◌, ◌++◌, map, Option, Some, None, unwrap_or, refl, sym, ap, subst, arith, append_assoc, append-nil}
 use Rattle.std.specs.Option.{option_or}
-use Rattle.std.proofs.lemmas.{List.map-append, Option.none-some}
-use Rattle.qapi_types.specs.Choices.{AreApart, again, stands, times}
+use Rattle.std.proofs.lemmas.{List.map-append}
+use Rattle.qapi_types.specs.Choices.{AreApart, stands}
 use Rattle.qapi_types.proofs.ChoiceLaws.{again-none}
 use Rattle.qapi_define.specs.declared.definition.{Definition.Definition, EnumValue.EnumValue, Member.Member, Part.Part, Variant.Variant}
 use Rattle.qapi_define.specs.declared.definition.Part.TheVariants as part
 use Rattle.qapi_define.specs.Saying.{first_some, members_in, members_of, values_in, values_of, variants_in, variants_of}
 use Rattle.qapi_rules.specs.declared.fault.{CheckFault.CheckFault, CheckRule.CheckRule}
 use Rattle.qapi_rules.specs.declared.fault.CheckRule.TheVariants.{BadName, MemberClash, NoSuccessResponse, Redefined}
-use Rattle.qapi_rules.specs.{BadNames.bad_name, BadNames.in_order, Blames.fault, Blames.first_of, Blames.over, BuiltIns.is_built_in, Clashes.clash, Clashes.clash_in, Clashes.clash_of_member, Clashes.clash_of_value, Clashes.clash_of_variant, Clashes.repeated, Clashes.taken}
+use Rattle.qapi_rules.specs.{BadNames.bad_name, BadNames.in_order, Blames.fault, Blames.over, BuiltIns.is_built_in, Clashes.clash, Clashes.clash_in, Clashes.clash_of_member, Clashes.clash_of_value, Clashes.clash_of_variant, Clashes.repeated, Clashes.taken}
 use Rattle.qapi_rules.specs.NamesRules.{names_pass, names_rules, redefined, without_response}
 use Rattle.qapi_check.proofs.ListLaws.{In, or-none, over-none, first_some-none, first_some-some}
 

@@ -1,26 +1,25 @@
 -- What a name stands for, and the type of its number.
-use Rattle.std.proofs.Common.{◌≡◌, ◌<◌, ◌≤◌, ◌+◌, ◌||◌, ◌==◌, ℕ, zero, suc, Bool, true, false, not, cond, nat_eq, List, [], ◌∷◌, ◌++◌, length, map, get_or, Option, Some, None, is_some, slice_get, position, unwrap_or, option_and_then, option_map, refl, sym, ap, ◌∙◌, subst, inl, inr, arith, bytes_eq}
-use Rattle.std.specs.List.{filter, list_any, position_from}
-use Rattle.std.proofs.lemmas.{Bool.Decides.Decides-eqb, List.length-map, Option.none-some, Option.slice_get-map, Option.slice_get_within, Slice.Eq.bytes_eq-Decides}
+use Rattle.std.proofs.Common.{◌≡◌, ◌≤◌, ◌+◌, ◌||◌, ℕ, zero, suc, Bool, true, false, cond, List, [], ◌∷◌, length, map, get_or, Option, Some, None, is_some, slice_get, unwrap_or, option_and_then, option_map, refl, sym, ap, ◌∙◌, subst, inl, inr, arith, bytes_eq}
+use Rattle.std.specs.List.{list_any, position_from}
+use Rattle.std.proofs.lemmas.{List.length-map, Option.none-some, Option.slice_get-map, Option.slice_get_within, Slice.Eq.bytes_eq-Decides}
 use Rattle.std.proofs.lemmas.Iterator.Adapters.{position_from-zero}
-use Rattle.qapi_types.specs.declared.kind.{Kind.Kind, JsonKind.JsonKind, ValueDef.ValueDef}
+use Rattle.qapi_types.specs.declared.kind.{Kind.Kind}
 use Rattle.qapi_types.specs.declared.kind.Kind.TheVariants as kinds
 use Rattle.qapi_types.specs.{Choices.AreApart, Choices.stands, Choices.times, Lookups.place_of}
-use Rattle.qapi_types.specs.Types.{is_enum, is_object, json_kind_of, kind_of, value_names, values_of}
-use Rattle.qapi_types.proofs.{ChoiceLaws.itself, ChoiceLaws.stands-times, ChoiceLaws.times-stands, NameLemmas.list_any-map}
-use Rattle.qapi_define.specs.declared.definition.{Definition.Definition, EnumValue.EnumValue, Sort.Sort}
+use Rattle.qapi_types.specs.Types.{is_enum, is_object, json_kind_of, kind_of, value_names}
+use Rattle.qapi_types.proofs.{ChoiceLaws.itself, ChoiceLaws.times-stands, NameLemmas.list_any-map}
+use Rattle.qapi_define.specs.declared.definition.{Definition.Definition, Sort.Sort}
 use Rattle.qapi_define.specs.declared.definition.Sort.TheVariants as sorts
-use Rattle.qapi_define.specs.Saying.{values_of as written_values}
-use Rattle.qapi_rules.specs.BuiltIns.{built_in as place_built_in, built_ins, is_built_in}
+use Rattle.qapi_rules.specs.BuiltIns.{built_in as place_built_in, is_built_in}
 use Rattle.qapi_rules.specs.declared.built_ins.TheConstants.{BUILT_INS}
 use Rattle.qapi_rules.specs.NamesRules.{names_pass}
-use Rattle.qapi_rules.specs.Meanings.{Entity, nothing, built_in, defined, built_in_of, definition_of, entity_by, entity_of, entity_of_definition, has_value, is_type, names_of}
+use Rattle.qapi_rules.specs.Meanings.{built_in, defined, built_in_of, definition_of, entity_of, entity_of_definition, has_value, is_type, names_of}
 use Rattle.qapi_rules.specs.Meanings.{is_enum as means_enum, is_struct as means_struct, is_union as means_union, kind_of as kind_meant}
 use Rattle.qapi_number.specs.declared.numbering.Numbering.{Numbering}
-use Rattle.qapi_number.specs.Kinds.{builtin_kinds, kind_defined, kinds_of, qtype_number, qtype_names, value_def, value_defs, value_names_at}
+use Rattle.qapi_number.specs.Kinds.{builtin_kinds, kind_defined, kinds_of}
 use Rattle.qapi_number.specs.Numbering.{numbering_of}
 use Rattle.qapi_number.specs.TypeNames.{builtin_names, is_type_sort, number_of_name, type_names, types_of}
-use Rattle.qapi_check.proofs.ListLaws.{In, any-in, at-found, at-in, found, found-left, found-right, in-at, in-filter, filter-in, map-in}
+use Rattle.qapi_check.proofs.ListLaws.{In, any-in, at-found, at-in, found, found-left, found-right, in-at, in-filter, filter-in}
 use Rattle.qapi_check.proofs.{CallLaws.fewer, NameLaws.names-apart, NameLaws.not-built-in, NumberLaws.kind-builtin, NumberLaws.kind-defined}
 
 pub same-name : (a b : List ℕ) → bytes_eq a b ≡ true → a ≡ b
@@ -190,21 +189,49 @@ Agree i xs ks = Unit {0}
 agreed : Agree 0 builtin_names builtin_kinds
 agreed = (
   record { json = refl; enum = refl; last = λ h. cc; values = λ v h. cc },
-  (record { json = refl; enum = refl; last = λ h. cc; values = λ v h. cc },
-  (record { json = refl; enum = refl; last = λ h. cc; values = λ v h. cc },
-  (record { json = refl; enum = refl; last = λ h. cc; values = λ v h. cc },
-  (record { json = refl; enum = refl; last = λ h. cc; values = λ v h. cc },
-  (record { json = refl; enum = refl; last = λ h. cc; values = λ v h. cc },
-  (record { json = refl; enum = refl; last = λ h. cc; values = λ v h. cc },
-  (record { json = refl; enum = refl; last = λ h. cc; values = λ v h. cc },
-  (record { json = refl; enum = refl; last = λ h. cc; values = λ v h. cc },
-  (record { json = refl; enum = refl; last = λ h. cc; values = λ v h. cc },
-  (record { json = refl; enum = refl; last = λ h. cc; values = λ v h. cc },
-  (record { json = refl; enum = refl; last = λ h. cc; values = λ v h. cc },
-  (record { json = refl; enum = refl; last = λ h. cc; values = λ v h. cc },
-  (record { json = refl; enum = refl; last = λ h. cc; values = λ v h. cc },
-  (record { json = refl; enum = refl; last = λ h. cc; values = λ v h. cc },
-  (record { json = refl; enum = refl; last = λ h. refl; values = λ v h. h }, tt)))))))))))))))
+  (
+    record { json = refl; enum = refl; last = λ h. cc; values = λ v h. cc },
+    (
+      record { json = refl; enum = refl; last = λ h. cc; values = λ v h. cc },
+      (
+        record { json = refl; enum = refl; last = λ h. cc; values = λ v h. cc },
+        (
+          record { json = refl; enum = refl; last = λ h. cc; values = λ v h. cc },
+          (
+            record { json = refl; enum = refl; last = λ h. cc; values = λ v h. cc },
+            (
+              record { json = refl; enum = refl; last = λ h. cc; values = λ v h. cc },
+              (
+                record { json = refl; enum = refl; last = λ h. cc; values = λ v h. cc },
+                (
+                  record { json = refl; enum = refl; last = λ h. cc; values = λ v h. cc },
+                  (
+                    record { json = refl; enum = refl; last = λ h. cc; values = λ v h. cc },
+                    (
+                      record { json = refl; enum = refl; last = λ h. cc; values = λ v h. cc },
+                      (
+                        record { json = refl; enum = refl; last = λ h. cc; values = λ v h. cc },
+                        (
+                          record { json = refl; enum = refl; last = λ h. cc; values = λ v h. cc },
+                          (
+                            record { json = refl; enum = refl; last = λ h. cc; values = λ v h. cc },
+                            (
+                              record { json = refl; enum = refl; last = λ h. cc; values = λ v h. cc },
+                              (record { json = refl; enum = refl; last = λ h. refl; values = λ v h. h }, tt),
+                            ),
+                          ),
+                        ),
+                      ),
+                    ),
+                  ),
+                ),
+              ),
+            ),
+          ),
+        ),
+      ),
+    ),
+  ),
 )
 
 fits-from : (i k : ℕ) (xs : List (List ℕ)) (ks : List Kind) (x : List ℕ) → length xs ≡ length ks → Agree i xs ks → slice_get xs k ≡ Some x → Fits (i + k) x (get_or ks k kinds.Null)

@@ -1,7 +1,7 @@
 -- Numbers of types are in range, and what the types of the numbers are.
-use Rattle.std.proofs.Common.{◌≡◌, ◌<◌, ◌≤◌, ◌+◌, ◌-◌, ◌⊎◌, ℕ, zero, suc, Bool, true, false, cond, List, [], ◌∷◌, ◌++◌, length, map, get_or, Option, Some, None, slice_get, position, unwrap_or, fold, option_map, refl, sym, ap, ◌∙◌, subst, inl, inr, arith, bytes_eq, All}
+use Rattle.std.proofs.Common.{◌≡◌, ◌<◌, ◌≤◌, ◌+◌, ◌-◌, ◌⊎◌, ℕ, suc, Bool, true, false, cond, List, [], ◌∷◌, ◌++◌, length, map, get_or, Option, Some, None, slice_get, position, unwrap_or, fold, option_map, refl, sym, ap, ◌∙◌, subst, inl, inr, arith, bytes_eq, All}
 use Rattle.std.specs.List.{AllByRecursion, enumerate_from, list_any, flat_map}
-use Rattle.std.proofs.lemmas.{Bool.cases_lt, Option.slice_get_within, Option.get_or_from_slice_get, Option.slice_get-get_or}
+use Rattle.std.proofs.lemmas.{Bool.cases_lt, Option.slice_get_within, Option.get_or_from_slice_get}
 use Rattle.std.proofs.lemmas.List.{length-append, length-map, get_or_append_left, get_or-append-add, get_or-map, FromFn.get_or-enumerate_from, Elements.All-map, Elements.All-nil}
 use Rattle.qapi_types.specs.declared.kind.{Branch.Branch, Kind.Kind, MemberDef.MemberDef}
 use Rattle.qapi_types.specs.declared.kind.Kind.TheVariants as kinds
@@ -14,12 +14,12 @@ use Rattle.qapi_define.specs.declared.definition.Sort.TheVariants as sorts
 use Rattle.qapi_define.specs.Saying.{data_of, members_of, returns_of, variants_of}
 use Rattle.qapi_number.specs.declared.{implicit.ImplicitType.ImplicitType, numbering.Numbering.Numbering}
 use Rattle.qapi_number.specs.declared.implicit.ImplicitType.TheVariants as implicit
-use Rattle.qapi_number.specs.Implicit.{same, implied, implied_by_members, implied_by_variants, implied_by_part, implied_by, written, lacks_data, with_implicit, implicit_types_of}
-use Rattle.qapi_number.specs.Kinds.{member_def, all_members, object_with, tag_of, tag_names, member_defs, branch_def, kind_defined, builtin_kinds, implicit_kind, defined_kinds, kinds_of, members_at, plain_object}
+use Rattle.qapi_number.specs.Implicit.{same, implied, implied_by_members, implied_by_part, implied_by, written, lacks_data, with_implicit, implicit_types_of}
+use Rattle.qapi_number.specs.Kinds.{member_def, all_members, tag_of, tag_names, member_defs, branch_def, kind_defined, builtin_kinds, implicit_kind, defined_kinds, kinds_of, members_at}
 use Rattle.qapi_number.specs.Numbering.{numbering_of, number_of_implicit, type_number}
-use Rattle.qapi_number.specs.PartsOf.{arg_of, calls_of, command_def, command_in, commands_of, data_number, event_def, event_in, events_of, returned_number}
+use Rattle.qapi_number.specs.PartsOf.{arg_of, calls_of, command_in, commands_of, data_number, event_in, events_of, returned_number}
 use Rattle.qapi_number.specs.TypeNames.{types_of, type_names, builtin_names, number_of_name}
-use Rattle.qapi_check.proofs.ListLaws.{In, in-either, map-in, flat_map-in, at-in, all-in, in-get_or, by-recursion, enumerated-in, at-found, past-none}
+use Rattle.qapi_check.proofs.ListLaws.{In, in-either, map-in, flat_map-in, all-in, in-get_or, by-recursion, enumerated-in, at-found, past-none}
 
 enumerate-long : {A : Type 0} (n : ℕ) (xs : List A) → length (enumerate_from n xs) ≡ length xs
 enumerate-long n [] = refl

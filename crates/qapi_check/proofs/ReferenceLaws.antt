@@ -1,21 +1,21 @@
 -- What definitions without a fault of references give.
-use Rattle.std.proofs.Common.{◌≡◌, ◌<◌, ◌≤◌, ◌+◌, ◌||◌, ◌&&◌, ℕ, Bool, true, false, not, cond, List, [], ◌∷◌, ◌++◌, length, map, get_or, Option, Some, None, unwrap_or, option_map, refl, sym, ap, ◌∙◌, subst, arith}
+use Rattle.std.proofs.Common.{◌≡◌, ◌||◌, ℕ, Bool, true, false, not, cond, List, [], ◌∷◌, ◌++◌, get_or, Option, Some, None, unwrap_or, option_map, refl, sym, ap, ◌∙◌, subst, arith}
 use Rattle.std.specs.{List.list_any, List.AllPairs, Option.option_or, Option.IsSome}
 use Rattle.std.proofs.lemmas.List.{append_assoc, append-nil, Quantifiers.all_pairs_push}
 use Rattle.std.proofs.lemmas.Bool.Decides.{Decides-eqb}
 use Rattle.qapi_types.specs.declared.kind.JsonKind.{JsonKind}
 use Rattle.qapi_types.specs.declared.kind.JsonKind.TheVariants as json
-use Rattle.qapi_define.specs.declared.definition.{Definition.Definition, Part.Part, Sort.Sort, Variant.Variant}
+use Rattle.qapi_define.specs.declared.definition.{Definition.Definition, Sort.Sort, Variant.Variant}
 use Rattle.qapi_define.specs.declared.definition.Part.TheVariants as part
 use Rattle.qapi_define.specs.declared.definition.Sort.TheVariants as sorts
 use Rattle.qapi_define.specs.Saying.{variants_of}
-use Rattle.qapi_rules.specs.declared.{fault.CheckFault.CheckFault, fault.CheckRule.CheckRule, meaning.BuiltIn.BuiltIn}
+use Rattle.qapi_rules.specs.declared.{fault.CheckFault.CheckFault, fault.CheckRule.CheckRule}
 use Rattle.qapi_rules.specs.declared.fault.CheckRule.TheVariants.{UnknownType, BadBase, BadDiscriminator, UnknownBranch, BadData, KindClash}
 use Rattle.qapi_rules.specs.declared.meaning.BuiltIn.TheVariants as built_ins
 use Rattle.qapi_rules.specs.Blames.{over}
 use Rattle.qapi_rules.specs.Meanings.{Entity, nothing, built_in, defined, are_same, entity_of, is_alternate_sort, is_mixed, is_type, kind_number, kind_of}
 use Rattle.qapi_rules.specs.References.{judged, unless, unknown, unknown_in, unknown_type, bad_base, bad_discriminator, unknown_branch, bad_data, bad_data_in, kind_clash, bad_reference, references_pass, may_be_alternative, may_be_variant, kind_of_alternative, is_of_kind, has_kind_of_one, clash_after}
-use Rattle.qapi_check.proofs.ListLaws.{In, any-in, in-get_or, or-none, first_some-none, over-none}
+use Rattle.qapi_check.proofs.ListLaws.{In, any-in, in-get_or, or-none, first_some-none}
 use Rattle.qapi_check.proofs.NameLaws.{variants-part}
 
 judged-none : (rule : CheckRule) (d : Definition) (o : Option (List ℕ)) → judged rule d o ≡ None → o ≡ None

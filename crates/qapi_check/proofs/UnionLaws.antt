@@ -1,6 +1,6 @@
 -- Tags and branches of definitions without a fault.
-use Rattle.std.proofs.Common.{◌≡◌, ◌<◌, ◌≤◌, ◌+◌, ◌||◌, ◌&&◌, ◌==◌, ℕ, zero, suc, Bool, true, false, not, cond, nat_eq, List, [], ◌∷◌, ◌++◌, length, map, get_or, All, Option, Some, None, is_some, IfSome, slice_get, option_map, option_and_then, unwrap_or, refl, sym, ap, ◌∙◌, subst, inl, inr, arith, bytes_eq}
-use Rattle.std.specs.{List.AllByRecursion, List.AllPairs, List.list_any}
+use Rattle.std.proofs.Common.{◌≡◌, ◌<◌, ◌+◌, ◌&&◌, ◌==◌, ℕ, Bool, true, false, not, cond, nat_eq, List, [], ◌∷◌, length, map, get_or, All, Option, Some, None, is_some, IfSome, slice_get, option_map, option_and_then, unwrap_or, refl, sym, ap, ◌∙◌, subst, arith, bytes_eq}
+use Rattle.std.specs.{List.AllPairs, List.list_any}
 use Rattle.std.proofs.lemmas.{Bool.Decides.Decides-eqb, Option.none-some, Option.same_Some, Option.slice_get-map, Option.slice_get_within}
 use Rattle.std.proofs.lemmas.List.{get_or-map, length-map, Elements.All-map, Elements.All-nil}
 use Rattle.qapi_types.specs.declared.kind.{Branch.Branch, Kind.Kind, MemberDef.MemberDef, ValueDef.ValueDef}
@@ -13,18 +13,17 @@ use Rattle.qapi_types.proofs.{ChoiceLaws.itself, NameLemmas.list_any-map, FaultL
 use Rattle.qapi_define.specs.declared.definition.{Definition.Definition, EnumValue.EnumValue, Member.Member, Sort.Sort, Variant.Variant}
 use Rattle.qapi_define.specs.declared.definition.Part.TheVariants as part
 use Rattle.qapi_define.specs.declared.definition.Sort.TheVariants as sorts
-use Rattle.qapi_define.specs.Saying.{discriminator_of, first_some, variants_of}
+use Rattle.qapi_define.specs.Saying.{discriminator_of, variants_of}
 use Rattle.qapi_define.specs.Saying.{values_of as written_values}
-use Rattle.qapi_rules.specs.{Clashes.clash_in, Clashes.clash_of_variant, Cycles.cycles_pass, NamesRules.names_pass}
-use Rattle.qapi_rules.specs.Meanings.{Entity, nothing, built_in, defined, entity_of, has_value, is_alternate_sort, is_struct, is_type, is_union}
+use Rattle.qapi_rules.specs.{Clashes.clash_of_variant, Cycles.cycles_pass, NamesRules.names_pass}
+use Rattle.qapi_rules.specs.Meanings.{Entity, nothing, built_in, defined, entity_of, has_value, is_alternate_sort, is_type}
 use Rattle.qapi_rules.specs.Meanings.{is_enum as means_enum}
-use Rattle.qapi_rules.specs.References.{branch_without_value, enum_of_branches, enum_of_discriminator, enum_of_member, members_of_base, references_pass, unless}
-use Rattle.qapi_rules.specs.declared.meaning.BuiltIn.TheVariants as built_ins
+use Rattle.qapi_rules.specs.References.{branch_without_value, enum_of_branches, enum_of_member, members_of_base, references_pass, unless}
 use Rattle.qapi_number.specs.declared.{implicit.ImplicitType.ImplicitType, numbering.Numbering.Numbering}
 use Rattle.qapi_number.specs.declared.implicit.ImplicitType.TheVariants as implicit
-use Rattle.qapi_number.specs.Kinds.{all_members, branch_def, builtin_kinds, implicit_kind, kind_defined, kinds_of, member_def, member_defs, object_with, qtype_names, qtype_number, tag_names, tag_of, value_defs, value_names_at}
+use Rattle.qapi_number.specs.Kinds.{all_members, branch_def, builtin_kinds, implicit_kind, kind_defined, kinds_of, member_def, member_defs, object_with, qtype_names, qtype_number, tag_names, tag_of, value_names_at}
 use Rattle.qapi_number.specs.{Numbering.number_of_implicit, Numbering.numbering_of, Numbering.type_number}
-use Rattle.qapi_number.specs.TypeNames.{builtin_names, is_type_sort, number_of_name, type_names, types_of}
+use Rattle.qapi_number.specs.TypeNames.{number_of_name, types_of}
 use Rattle.qapi_check.specs.Lawful.{has_lawful_branches}
 use Rattle.qapi_check.proofs.ListLaws.{In, all-in, any-in, found, in-at, in-get_or, first_some-none, first_some-some, weaker-recursion}
 use Rattle.qapi_check.proofs.NameLaws.{taken-none, variants-part, part-apart}
@@ -32,7 +31,7 @@ use Rattle.qapi_check.proofs.NamedLaws.{IsOwn, Named, own, given, any-flip, fits
 use Rattle.qapi_check.proofs.NumberLaws.{kind-defined, kinds-all, kinds-long}
 use Rattle.qapi_check.proofs.ReferenceLaws.{IsReferring, no-pairs, pairs-over, referring, unless-none, variant-type}
 use Rattle.qapi_check.proofs.GraphLaws.{base-members, both, branch-may, negated}
-use Rattle.qapi_check.proofs.ApartLaws.{lawful-union, names-of-defs, names-of-values}
+use Rattle.qapi_check.proofs.ApartLaws.{lawful-union, names-of-values}
 
 -- the member that chooses among the branches
 record IsTag (defs : List Definition) (d : Definition) (t : ℕ) (name : List ℕ) (m : Member) : Type 0 where
@@ -152,7 +151,7 @@ values-differ n names (v ∷ vs) f u = λ x y e l m.
     let q : y < length (v ∷ vs) = omega (arith, m, z) in
     let p : x < length (v ∷ vs) = omega (arith, l, q) in
     λ h. differ (get_or (v ∷ vs) x v) (get_or (v ∷ vs) y v) (f _ (in-get_or (v ∷ vs) x v p)) (f _ (in-get_or (v ∷ vs) y v q)) (u x y v l q)
-        (ap (λ (b : Branch). b.value) (sym (get_or-map (branch_def n names) (v ∷ vs) x v e p)) ∙ h ∙ ap (λ (b : Branch). b.value) (get_or-map (branch_def n names) (v ∷ vs) y v e q)))
+    (ap (λ (b : Branch). b.value) (sym (get_or-map (branch_def n names) (v ∷ vs) x v e p)) ∙ h ∙ ap (λ (b : Branch). b.value) (get_or-map (branch_def n names) (v ∷ vs) y v e q)))
   where
     differ : (a b : Variant) → stands a.name names ≡ true → stands b.name names ≡ true → Unlike a b → unwrap_or (place_of names a.name) 0 ≡ unwrap_or (place_of names b.name) 0 → ⊥
     differ a b s t w h =
@@ -182,26 +181,30 @@ module _ (defs : List Definition) (names : names_pass defs ≡ None) (references
       by_enum (Some e2) h =
           let k : (m : Member) × In m (members_of_base defs d) × (enum_of_member defs name m ≡ Some e2) = first_some-some (enum_of_member defs name) e2 (members_of_base defs d) h in
           let i : IsEnumMember defs name k.0 e2 = enum-member defs name k.0 e2 k.2 in
-          let b : branch_without_value e2 (variants_of d) ≡ None = sym (ap (λ o. option_and_then (λ entity. branch_without_value entity (variants_of d)) (option_and_then (enum_of_branches defs d) o)) e ∙ ap (λ o. option_and_then (λ entity. branch_without_value entity (variants_of d)) o) h) ∙ r.branch in
-          (k.0, record {
-            among = base-members defs names references cycles t d k.0 g k.1;
-            named = i.named;
-            mandatory = i.mandatory;
-            plain = i.plain;
-            enum = i.enum;
-            values = λ v j. subst (λ x. has_value v.name x ≡ true) (sym i.is) (unless-none (has_value v.name e2) v.name (first_some-none (λ (v : Variant). unless (has_value v.name e2) v.name) v (variants_of d) b j));
-          })
+          let b : branch_without_value e2 (variants_of d) ≡ None = sym (ap (λ o. option_and_then (λ entity. branch_without_value entity (variants_of d)) (option_and_then (enum_of_branches defs d) o)) e ∙ ap (λ o. option_and_then (λ entity. branch_without_value entity (variants_of d)) o) h) ∙ r.branch in (
+            k.0,
+            record {
+              among = base-members defs names references cycles t d k.0 g k.1;
+              named = i.named;
+              mandatory = i.mandatory;
+              plain = i.plain;
+              enum = i.enum;
+              values = λ v j. subst (λ x. has_value v.name x ≡ true) (sym i.is) (unless-none (has_value v.name e2) v.name (first_some-none (λ (v : Variant). unless (has_value v.name e2) v.name) v (variants_of d) b j));
+            },
+          )
 
   placed-tag : (d : Definition) (t : ℕ) (name : List ℕ) (m : Member) → IsTag defs d t name m → discriminator_of d ≡ Some name → AreApart (map (λ (m : MemberDef). m.name) (member_defs (numbering_of defs) (all_members (types_of defs) t))) → (p : ℕ) × IsPlaced (numbering_of defs) d t p m
   placed-tag d t name m k e apart =
       let i : (p : ℕ) × (slice_get (all_members (types_of defs) t) p ≡ Some m) = in-at m (all_members (types_of defs) t) k.among in
       let a : slice_get (member_defs (numbering_of defs) (all_members (types_of defs) t)) i.0 ≡ Some (member_def (numbering_of defs) m) = slice_get-map (member_def (numbering_of defs)) (all_members (types_of defs) t) i.0 ∙ ap (option_map (member_def (numbering_of defs))) i.1 in
       let b : slice_get (map (λ (m : MemberDef). m.name) (member_defs (numbering_of defs) (all_members (types_of defs) t))) i.0 ≡ Some name =
-          slice_get-map (λ (m : MemberDef). m.name) (member_defs (numbering_of defs) (all_members (types_of defs) t)) i.0 ∙ ap (option_map (λ (m : MemberDef). m.name)) a ∙ ap (λ x. Some x) k.named in
-      (i.0, record {
-        tag = ap (option_and_then (place_of (map (λ (m : MemberDef). m.name) (member_defs (numbering_of defs) (all_members (types_of defs) t))))) e ∙ place-once i.0 (map (λ (m : MemberDef). m.name) (member_defs (numbering_of defs) (all_members (types_of defs) t))) name b apart;
-        at = a;
-      })
+      slice_get-map (λ (m : MemberDef). m.name) (member_defs (numbering_of defs) (all_members (types_of defs) t)) i.0 ∙ ap (option_map (λ (m : MemberDef). m.name)) a ∙ ap (λ x. Some x) k.named in (
+        i.0,
+        record {
+          tag = ap (option_and_then (place_of (map (λ (m : MemberDef). m.name) (member_defs (numbering_of defs) (all_members (types_of defs) t))))) e ∙ place-once i.0 (map (λ (m : MemberDef). m.name) (member_defs (numbering_of defs) (all_members (types_of defs) t))) name b apart;
+          at = a;
+        },
+      )
 
   -- the type that has no name of arrays
   plain-number : (m : Member) → m.of.is_array ≡ false → type_number (numbering_of defs) m.of ≡ number_of_name (types_of defs) m.of.name
@@ -260,13 +263,13 @@ module _ (defs : List Definition) (names : names_pass defs ≡ None) (references
           let w : Named defs m.0.of.name = tag-type defs names references cycles lawful d t name m.0 m.1 in
           let q : type_number (numbering_of defs) m.0.of ≡ number_of_name (types_of defs) m.0.of.name = plain-number defs names references cycles lawful m.0 m.1.plain in
           let there : names_by defs d t ≡ value_names_at (types_of defs) (number_of_name (types_of defs) m.0.of.name) =
-              ap (tag_names (types_of defs) (members_by defs t)) p.1.tag
-              ∙ ap (λ (o : Option MemberDef). unwrap_or (option_map (λ (m : MemberDef). value_names_at (types_of defs) m.type_id) o) []) p.1.at
-              ∙ ap (value_names_at (types_of defs)) q in
+          ap (tag_names (types_of defs) (members_by defs t)) p.1.tag
+          ∙ ap (λ (o : Option MemberDef). unwrap_or (option_map (λ (m : MemberDef). value_names_at (types_of defs) m.type_id) o) []) p.1.at
+          ∙ ap (value_names_at (types_of defs)) q in
           let values : length (tag_values (all_kinds defs) (object_by defs d t)) ≡ length (values_of (kind_of (all_kinds defs) (number_of_name (types_of defs) m.0.of.name))) =
-              ap (λ (o : Option ℕ). length (values_at (all_kinds defs) (option_and_then (λ p. slice_get (members_by defs t) p) o))) p.1.tag
-              ∙ ap (λ (o : Option MemberDef). length (values_at (all_kinds defs) o)) p.1.at
-              ∙ ap (λ (k : ℕ). length (values_of (kind_of (all_kinds defs) k))) q in
+          ap (λ (o : Option ℕ). length (values_at (all_kinds defs) (option_and_then (λ p. slice_get (members_by defs t) p) o))) p.1.tag
+          ∙ ap (λ (o : Option MemberDef). length (values_at (all_kinds defs) o)) p.1.at
+          ∙ ap (λ (k : ℕ). length (values_of (kind_of (all_kinds defs) k))) q in
           record {
             stand = λ v j. subst (λ l. stands v.name l ≡ true) (sym there) (value-stands defs m.0.of.name v.name w m.1.enum (m.1.values v j));
             long =
@@ -304,12 +307,17 @@ module _ (defs : List Definition) (names : names_pass defs ≡ None) (references
   own-good : (d : Definition) (t : ℕ) → slice_get (types_of defs) t ≡ Some d → In d defs → IsReferring defs d → is_alternate_sort d.sort ≡ false → AreApart (map (λ (m : MemberDef). m.name) (members_by defs t)) → IsUnionGood (all_kinds defs) (object_by defs d t)
   own-good d t g i r a apart =
       let v : IsValued defs d t = valued d t g i r a apart in (
-        (tag-within d t, All-map (λ (b : Branch). b.value < length (tag_values (all_kinds defs) (object_by defs d t))) (branch_def (numbering_of defs) (names_by defs d t)) (variants_of d)
-            (all-in (λ (w : Variant). unwrap_or (place_of (names_by defs d t) w.name) 0 < length (tag_values (all_kinds defs) (object_by defs d t))) (variants_of d) (λ w j. (let l = value-within (names_by defs d t) w.name (v.stand w j) in omega (arith, l, v.long))))),
+        (
+          tag-within d t,
+          All-map (λ (b : Branch). b.value < length (tag_values (all_kinds defs) (object_by defs d t))) (branch_def (numbering_of defs) (names_by defs d t)) (variants_of d)
+              (all-in (λ (w : Variant). unwrap_or (place_of (names_by defs d t) w.name) 0 < length (tag_values (all_kinds defs) (object_by defs d t))) (variants_of d) (λ w j. (let l = value-within (names_by defs d t) w.name (v.stand w j) in omega (arith, l, v.long)))),
+        ),
         own-tag d t g r apart,
-        (All-map (λ (b : Branch). is_object (kind_of (all_kinds defs) b.type_id) ≡ true) (branch_def (numbering_of defs) (names_by defs d t)) (variants_of d)
-            (all-in (λ (w : Variant). is_object (kind_of (all_kinds defs) (type_number (numbering_of defs) w.of)) ≡ true) (variants_of d) (λ w j. object w j)),
-        values-differ (numbering_of defs) (names_by defs d t) (variants_of d) v.stand (variants-unlike defs d names i)),
+        (
+          All-map (λ (b : Branch). is_object (kind_of (all_kinds defs) b.type_id) ≡ true) (branch_def (numbering_of defs) (names_by defs d t)) (variants_of d)
+              (all-in (λ (w : Variant). is_object (kind_of (all_kinds defs) (type_number (numbering_of defs) w.of)) ≡ true) (variants_of d) (λ w j. object w j)),
+          values-differ (numbering_of defs) (names_by defs d t) (variants_of d) v.stand (variants-unlike defs d names i),
+        ),
       )
     where
       object : (w : Variant) → In w (variants_of d) → is_object (kind_of (all_kinds defs) (type_number (numbering_of defs) w.of)) ≡ true
@@ -336,7 +344,7 @@ module _ (defs : List Definition) (names : names_pass defs ≡ None) (references
   unions-good apart = kinds-all (IsUnionGood (all_kinds defs)) (numbering_of defs) defs
       (λ t d g. (let w : IsOwn defs d.name d = own-at defs d t names g in defined-good d.sort t d refl g w.among (referring defs d references w.among) (own-names t d g)))
       (weaker-recursion (λ k. (tag_position k ≡ None) × (branches_of k ≡ [])) (IsUnionGood (all_kinds defs)) (λ k h. without-tag (all_kinds defs) k h.0 h.1) builtin_kinds
-          ((refl, refl), ((refl, refl), ((refl, refl), ((refl, refl), ((refl, refl), ((refl, refl), ((refl, refl), ((refl, refl), ((refl, refl), ((refl, refl), ((refl, refl), ((refl, refl), ((refl, refl), ((refl, refl), ((refl, refl), ((refl, refl), tt)))))))))))))))))
+      ((refl, refl), ((refl, refl), ((refl, refl), ((refl, refl), ((refl, refl), ((refl, refl), ((refl, refl), ((refl, refl), ((refl, refl), ((refl, refl), ((refl, refl), ((refl, refl), ((refl, refl), ((refl, refl), ((refl, refl), ((refl, refl), tt)))))))))))))))))
       (λ x h. implicit-good x)
     where
       own-names : (t : ℕ) (d : Definition) → slice_get (types_of defs) t ≡ Some d → AreApart (member_names (kind_defined (numbering_of defs) d.sort t d))

@@ -1,7 +1,6 @@
-ghost use Rattle.std.specs.Prelude.{◌≡◌, IfErr, IfOk, IsSome};
+ghost use Rattle.std.specs.Prelude.{◌≡◌, IfErr, IsSome};
 ghost use Rattle.std.specs.Option.{option_copied};
 ghost use Rattle.qapi_load.specs.Causes.{HasCause as HasLoadCause};
-ghost use Rattle.qapi_check.specs.Beginning.{BeginsWithPrelude};
 ghost use Rattle.qapi_check.specs.Checking.{HasCause, IsUnread, SchemaFrom, SourcesFrom};
 
 use crate::checking::check_sources;
@@ -53,7 +52,6 @@ pub fn load_schema<L: Library>(
     defines: &[Text],
 ) -> Result<Schema, SchemaFault>
     ensures given { SchemaFrom (L.files library.old) (option_copied main.entry) defines.now result }
-    ensures prelude { IfOk result BeginsWithPrelude }
     ensures asked { IsUnread result → IsSome (option_copied main.entry) }
     ensures same { L.files library.new ≡ L.files library.old }
     ensures cause { HasCause result
