@@ -1,4 +1,6 @@
+pub mod Beginning
 pub mod Checking
 pub mod Clashes
+pub mod Lawful
 pub mod Passes
 pub mod Walking

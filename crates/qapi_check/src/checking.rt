@@ -1,16 +1,20 @@
-ghost use Rattle.std.specs.Prelude.{◌≡◌, ◌∷◌, [], IfOk};
+ghost use Rattle.std.specs.Prelude.{◌≡◌, None, IfOk};
 ghost use Rattle.std.specs.Option.{option_map};
-ghost use Rattle.qapi_rules.specs.Blames.{first_of, told};
+ghost use Rattle.qapi_rules.specs.Blames.{told};
 ghost use Rattle.qapi_check.specs.Checking.{IsChecked, checked as checked_of, checked_sources as sources_checked, memory_fault, table_unless};
+ghost use Rattle.qapi_check.specs.Beginning.{BeginsWithPrelude};
+ghost use Rattle.qapi_check.specs.Lawful.{AreLawful};
 ghost use Rattle.qapi_check.specs.Passes as Steps;
 
+use crate::counts::is_counted;
+use crate::lawful::are_lawful;
 use crate::passes::{
     all_definitions, clash_fault, cycle_fault, names_fault, numbered, references_fault,
 };
 use qapi_define::Definition;
 use qapi_load::{Source, SourceList};
 use qapi_rules::{Blame, CheckFault, CheckRule, DefinitionTable};
-use qapi_types::{Kind, Names, Schema, parts_good};
+use qapi_types::{Kind, Names, Schema};
 use qm_base::{NoMemory, Text};
 use std::alloc::Global;
 
@@ -19,8 +23,7 @@ fn first_blame<'a>(
     alloc: Global,
     definitions: &'a [Definition],
 ) -> Result<Option<Blame<'a>>, NoMemory>
-    ensures { IfOk result (λ blame. option_map told blame ≡ first_of (Steps.names_fault definitions.now
-        ∷ Steps.references_fault definitions.now ∷ Steps.cycle_fault definitions.now ∷ [])) }
+    ensures { IfOk result (λ blame. option_map told blame ≡ Steps.early_fault definitions.now) }
 {
     if let Some(blame) = names_fault(alloc, definitions)? {
         return Ok(Some(blame));
@@ -46,8 +49,7 @@ fn owned(alloc: Global, blame: Option<Blame>) -> Result<Option<CheckFault>, NoMe
 }
 
 fn first_early(alloc: Global, definitions: &[Definition]) -> Result<Option<CheckFault>, NoMemory>
-    ensures { IfOk result (λ fault. fault ≡ first_of (Steps.names_fault definitions.now
-        ∷ Steps.references_fault definitions.now ∷ Steps.cycle_fault definitions.now ∷ [])) }
+    ensures { IfOk result (λ fault. fault ≡ Steps.early_fault definitions.now) }
 {
     let blame = first_blame(alloc, definitions)?;
     owned(alloc, blame)
@@ -58,7 +60,9 @@ fn first_clash(
     kinds: &[Kind],
     definitions: &[Definition],
 ) -> Result<Option<CheckFault>, NoMemory>
-    requires { kinds.now ≡ (Steps.numbered definitions.now).kinds }
+    requires types { kinds.now ≡ (Steps.numbered definitions.now).kinds }
+    requires lawful { AreLawful definitions.now }
+    requires early { Steps.early_fault definitions.now ≡ None }
     ensures { IfOk result (λ fault. fault ≡ Steps.clash_fault definitions.now) }
 {
     let blame = clash_fault(alloc, kinds, definitions)?;
@@ -68,6 +72,8 @@ fn first_clash(
 /// The first clash, or else the sealed table. Want of memory is also answered where the table
 /// passes a count of its numbers.
 fn sealed(alloc: Global, definitions: &[Definition]) -> Result<Result<Schema, CheckFault>, NoMemory>
+    requires lawful { AreLawful definitions.now }
+    requires early { Steps.early_fault definitions.now ≡ None }
     ensures { IfOk result (λ answer. answer
         ≡ table_unless (Steps.clash_fault definitions.now) definitions.now) }
 {
@@ -75,11 +81,25 @@ fn sealed(alloc: Global, definitions: &[Definition]) -> Result<Result<Schema, Ch
     if let Some(fault) = first_clash(alloc, parts.kinds.as_slice(), definitions)? {
         return Ok(Err(fault));
     }
-    if !parts_good(alloc, &parts)? {
+    if !is_counted(&parts) {
         return Err(NoMemory);
     }
     let schema = Schema::seal(alloc, parts)?;
     Ok(Ok(schema))
+}
+
+/// The same, where want of memory is also answered of definitions that are not written as a schema
+/// is.
+fn tabled(alloc: Global, definitions: &[Definition]) -> Result<Result<Schema, CheckFault>, NoMemory>
+    requires { Steps.early_fault definitions.now ≡ None }
+    ensures { IfOk result (λ answer. answer
+        ≡ table_unless (Steps.clash_fault definitions.now) definitions.now) }
+{
+    if are_lawful(definitions) {
+        sealed(alloc, definitions)
+    } else {
+        Err(NoMemory)
+    }
 }
 
 /// The first fault of definitions, or their sealed table.
@@ -89,10 +109,10 @@ fn checked(
 ) -> Result<Result<Schema, CheckFault>, NoMemory>
     ensures { IfOk result (λ answer. answer ≡ checked_of definitions.now) }
 {
-    if let Some(fault) = first_early(alloc, definitions)? {
-        return Ok(Err(fault));
+    match first_early(alloc, definitions)? {
+        Some(fault) => Ok(Err(fault)),
+        None => tabled(alloc, definitions),
     }
-    sealed(alloc, definitions)
 }
 
 fn checked_sources(
@@ -124,7 +144,8 @@ pub fn check_sources(
     sources: &[Source],
     defines: &[Text],
 ) -> Result<Schema, CheckFault>
-    ensures { IsChecked result → result ≡ sources_checked defines.now sources.now }
+    ensures value { IsChecked result → result ≡ sources_checked defines.now sources.now }
+    ensures prelude { IfOk result BeginsWithPrelude }
 {
     match checked_sources(alloc, sources, defines) {
         Ok(answer) => answer,
@@ -137,11 +158,12 @@ pub fn check_sources(
 /// generation guide, "Schema syntax", "Configuring the schema"). The fault is the first, pass by
 /// pass: of names, of references, of cycles, and of names that clash along branches.
 ///
-/// - `Memory`: no memory was left, or the table passes a count of its numbers; the line is 0, and
-///   file and name are empty.
+/// - `Memory`: no memory was left, or the table passes a count of its numbers, or the expressions
+///   are not of the shapes that a schema's have; the line is 0, and file and name are empty.
 /// - Each other rule: the definition at this line of this file breaks it.
 pub fn check(alloc: Global, sources: &SourceList, defines: &Names) -> Result<Schema, CheckFault>
-    ensures { IsChecked result → result ≡ sources_checked defines.now sources.now }
+    ensures value { IsChecked result → result ≡ sources_checked defines.now sources.now }
+    ensures prelude { IfOk result BeginsWithPrelude }
 {
     check_sources(alloc, sources.as_slice(), defines.as_slice())
 }

@@ -2,15 +2,17 @@
 //! generation guide, "Schema syntax").
 #![tactic(auto)]
 
-mod acyclic;
 pub mod checking;
 pub mod choices;
 pub mod clashes;
+mod counts;
+mod lawful;
+pub mod laws;
 pub mod loading;
 mod passes;
 
-pub use acyclic::have_no_cycle;
 pub use checking::check;
 pub use choices::Choices;
 pub use clashes::clashes_pass;
+pub use laws::what_passes_is_good;
 pub use loading::{SchemaFault, load_schema};

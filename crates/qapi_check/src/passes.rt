@@ -1,9 +1,9 @@
-ghost use Rattle.std.specs.Prelude.{◌≡◌, IfOk};
+ghost use Rattle.std.specs.Prelude.{◌≡◌, None, IfOk};
 ghost use Rattle.std.specs.Option.{option_map};
 ghost use Rattle.qapi_rules.specs.Blames.{told};
+ghost use Rattle.qapi_check.specs.Lawful.{AreLawful};
 ghost use Rattle.qapi_check.specs.Passes as Steps;
 
-use crate::acyclic::have_no_cycle;
 use crate::clashes::clashes_pass;
 use qapi_define::{Definition, DefinitionList, definitions};
 use qapi_load::Source;
@@ -52,20 +52,18 @@ pub fn numbered(alloc: Global, definitions: &[Definition]) -> Result<Parts, NoMe
     parts(alloc, definitions)
 }
 
-/// The first clash along branches. Want of memory is also answered where the types' branches lead
-/// to no types or to a cycle.
+/// The first clash along branches.
 #[tactic(auto, unfolding(crate::specs::Passes::clash_fault))]
 pub fn clash_fault<'a>(
     alloc: Global,
     kinds: &'a [Kind],
     definitions: &'a [Definition],
 ) -> Result<Option<Blame<'a>>, NoMemory>
-    requires { kinds.now ≡ (Steps.numbered definitions.now).kinds }
+    requires types { kinds.now ≡ (Steps.numbered definitions.now).kinds }
+    requires lawful { AreLawful definitions.now }
+    requires early { Steps.early_fault definitions.now ≡ None }
     ensures { IfOk result (λ blame. option_map told blame ≡ Steps.clash_fault definitions.now) }
 {
-    if !have_no_cycle(alloc, kinds)? {
-        return Err(NoMemory);
-    }
     clashes_pass(alloc, kinds, definitions)
 }
 

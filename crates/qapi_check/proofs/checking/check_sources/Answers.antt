@@ -1,0 +1,5 @@
+use Rattle.qapi_check.proofs.BeginLaws.{table_begins}
+use Rattle.qapi_check.proofs.checking.check_sources.Goals as goal
+
+pub returns-in-Ok-clause-prelude : goal.returns-in-Ok-clause-prelude
+returns-in-Ok-clause-prelude c = table_begins c.args.defines.now c.args.sources.now c.in-Ok.answer c.in-Ok.ensures
