@@ -65,16 +65,14 @@ members_misfit given t p [] = None
 members_misfit given t p (m ∷ ms) = option_or (member_misfit given t p m) (members_misfit given t (p + 1) ms)
 
 -- the type, the branch that the tag chooses in it, the branch that is chosen in that, and so on; so many at most
-abbrev pub choices_from : ℕ → List Kind → List NamedInner → ℕ → List ℕ
-choices_after : ℕ → List Kind → List NamedInner → Option ℕ → List ℕ
-choices_from zero table given t = []
-choices_from (suc k) table given t = t ∷ choices_after k table given (chosen_by (text_in given) table t)
-choices_after k table given None = []
-choices_after k table given (Some b) = choices_from k table given b
+abbrev pub choices_from : ℕ → List Kind → List NamedInner → Option ℕ → List ℕ
+choices_from zero table given start = []
+choices_from (suc k) table given None = []
+choices_from (suc k) table given (Some t) = t ∷ choices_from k table given (chosen_by (text_in given) table t)
 
 -- the same whole: no type leads back to itself
 abbrev pub choices_of : List Kind → List NamedInner → ℕ → List ℕ
-choices_of table given t = choices_from (length table) table given t
+choices_of table given t = choices_from (length table) table given (Some t)
 
 -- the first fault of the members of some types, type by type
 abbrev pub types_misfit : List Kind → List NamedInner → List ℕ → Option Misfit
