@@ -1,0 +1,6 @@
+pub mod Choices
+pub mod Fitted
+pub mod Layers
+pub mod Lists
+pub mod Members
+pub mod Unfaulty
