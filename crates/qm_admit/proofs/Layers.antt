@@ -16,6 +16,9 @@ use Rattle.qm_admit.specs.Misfits.{Inner, NamedInner, Misfit, inner_layer, named
 abbrev pub asked : List Kind → Member → NamedInner
 asked table m = record { name = m.name; inner = inner_of table m.value }
 
+abbrev pub asked_members : List Kind → List Member → List NamedInner
+asked_members table given = map (asked table) given
+
 -- a layer, with what is asked of each value inside it
 abbrev pub asked_layer : List Kind → Json-F Json Member → Json-F Inner NamedInner
 asked_layer table y = map-Json Json Member Inner NamedInner (inner_of table) (asked table) y

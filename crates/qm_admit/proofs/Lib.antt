@@ -1,4 +1,5 @@
 pub mod Choices
+pub mod FitLaws
 pub mod Fitted
 pub mod Layers
 pub mod Lists

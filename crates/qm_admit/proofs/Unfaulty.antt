@@ -17,11 +17,11 @@ use Rattle.qm_admit.specs.Views.{View, IsArr, IsObj, view_of, layer_view, kind_i
 use Rattle.qm_admit.specs.Fitting.{Among, fits_plainly, IsMember, HasMandatory, Fits, plain, array, alternate, object, FitItems, no_items, items, FitMembers, no_members, members}
 use Rattle.qm_admit.specs.declared.path.PathStep.TheVariants.{Place}
 use Rattle.qm_admit.specs.Misfits.{inner_of, inside, items_misfit, types_misfit, is_known, unknown_misfit, object_misfit, choices_of, kind_misfit, is_of, alternative_of, walked_as, first_misfit}
-use Rattle.qm_admit.proofs.Layers.{asked, asked_layer, misfit-is, Parts, every-layer}
+use Rattle.qm_admit.proofs.Layers.{asked_members, asked_layer, misfit-is, Parts, every-layer}
 use Rattle.qm_admit.proofs.Lists.{part-among, all-among, pairs-head, pairs-tail}
-use Rattle.qm_admit.proofs.Choices.{within, OfType, listed, chosen-member, same-member}
+use Rattle.qm_admit.proofs.Choices.{within, types_along, OfType, listed, chosen-member, same-member}
 use Rattle.qm_admit.proofs.Members.{or-none, passes, unchecked, types-none, known-by, none-unknown}
-use Rattle.qm_admit.proofs.Fitted.{Sort, choice, one, sorted}
+use Rattle.qm_admit.proofs.Fitted.{IsAlternate, several, one, alternates}
 
 plain-none : (table : List Kind) (t : ℕ) (kind : Kind) (y : Json-F Json Member) → fits_plainly kind (layer_view y) ≡ true → kind_misfit table t kind (asked_layer table y) ≡ None
 plain-none table t kinds.Any y h = refl
@@ -115,17 +115,17 @@ module _ (table : List Kind) (cycles : NoneOnCycle (map branch_types table) (len
 
   items-none : {e : ℕ} {vs : List Json} → FitItems table e vs → AllByRecursion FaultlessIfFits vs → (place : ℕ) → items_misfit e place (map (inner_of table) vs) ≡ None
   items-none no_items all place = refl
-  items-none {e = e} (items {v = v} {vs = vs} f fs) all place = or-none (inside (Place place) (first_misfit table e v)) (items_misfit e (place + 1) (map (inner_of table) vs)) (ap (inside (Place place)) (all.0 e f)) (items-none fs all.1 (place + 1))
+  items-none {e = e} (items {v = v} {vs = vs} f fs) all place = or-none _ _ (ap (inside (Place place)) (all.0 e f)) (items-none fs all.1 (place + 1))
 
   object-none : (given : List Member) (t : ℕ) → HasMandatory table given t → FitMembers table given t given → AllByRecursion (λ (x : Member). FaultlessIfFits x.value) given →
-      object_misfit table (map (asked table) given) (choices_of table (map (asked table) given) t) ≡ None
+      object_misfit table (asked_members table given) (types_along table given t) ≡ None
   object-none given t mandatory fs all =
-      or-none (types_misfit table (map (asked table) given) types) (unknown_misfit table (map (asked table) given) types)
+      or-none _ _
           (types-none table given types (λ u q m a b. let is = chosen-member table given t u m a b in unchecked table given u q m (mandatory m is) (λ x c e. all-fit m is x c e)))
           (none-unknown table given types all-named)
     where
       types : List ℕ
-      types = choices_of table (map (asked table) given) t
+      types = types_along table given t
 
       all-fit : (m : MemberDef) → IsMember table given t m → (x : Member) → Among x given → x.name ≡ m.name → first_misfit table m.type_id x.value ≡ None
       all-fit m is x c e =
@@ -164,8 +164,8 @@ module _ (table : List Kind) (cycles : NoneOnCycle (map branch_types table) (len
   not-plain : (kind : Kind) (view : View) (types : List ℕ) (features : List (List ℕ)) → kind ≡ kinds.Alternate types features → fits_plainly kind view ≡ true → ⊥
   not-plain kind view types features k h = let g : fits_plainly (kinds.Alternate types features) view ≡ true = subst (λ (kind : Kind). fits_plainly kind view ≡ true) k h in cc
 
-  alone : (t : ℕ) (kind : Kind) (sort : JsonKind) (view : View) → Sort table sort t kind → fits_plainly kind view ≡ true → alternative_of table sort t kind ≡ Some t
-  alone t kind sort view (choice types features) h = absurd (not-plain kind view types features refl h)
+  alone : (t : ℕ) (kind : Kind) (sort : JsonKind) (view : View) → IsAlternate table sort t kind → fits_plainly kind view ≡ true → alternative_of table sort t kind ≡ Some t
+  alone t kind sort view (several types features) h = absurd (not-plain kind view types features refl h)
   alone t kind sort view (one e) h = e
 
   told-apart : (t : ℕ) (types : List ℕ) (features : List (List ℕ)) → kind_of table t ≡ kinds.Alternate types features → AreToldApart table types
@@ -175,7 +175,7 @@ module _ (table : List Kind) (cycles : NoneOnCycle (map branch_types table) (len
 
   faultless : {t : ℕ} {v : Json} (y : Json-F Json Member) → out-Json v ≡ y → Parts FaultlessIfFits y → Fits table t v → walked_as table (alternative_of table (kind_in y) t (kind_of table t)) (asked_layer table y) ≡ None
   faultless {t = t} {v = v} y o all (plain h) =
-      ap (λ o. walked_as table o (asked_layer table y)) (alone t (kind_of table t) (kind_in y) (view_of v) (sorted table (kind_in y) t (kind_of table t)) h) ∙ plain-at v y t o h
+      ap (λ o. walked_as table o (asked_layer table y)) (alone t (kind_of table t) (kind_in y) (view_of v) (alternates table (kind_in y) t (kind_of table t)) h) ∙ plain-at v y t o h
   faultless {t = t} {v = v} y o all (array e vs k is fs) = ap (λ kind. walked_as table (alternative_of table (kind_in y) t kind) (asked_layer table y)) k ∙ array-at v y t e vs o all k is fs
   faultless {t = t} {v = v} y o all (object def given k is m fs) = ap (λ kind. walked_as table (alternative_of table (kind_in y) t kind) (asked_layer table y)) k ∙ object-at v y t def given o all k is m fs
   faultless {t = t} {v = v} y o all (alternate types features a k among f) =

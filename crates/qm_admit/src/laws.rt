@@ -10,10 +10,13 @@ ghost use Rattle.qm_admit.specs.Fitting.{Fits};
 ghost use Rattle.qm_admit.specs.Misfits.{first_misfit};
 ghost use Rattle.qm_admit.specs.Ranges.{least_of, past_of, is_in_range};
 
-/// A clean value fits a type of a sealed schema exactly if there is no fault in it.
+/// A clean value fits a type of a sealed schema exactly if there is no fault in it; there is none
+/// in any value that fits.
 pub fn a_value_without_misfit_fits()
-    ensures { (p : Parts) → IsGood p → (t : ℕ) (v : Json) → IsClean v →
+    ensures clean { (p : Parts) → IsGood p → (t : ℕ) (v : Json) → IsClean v →
         (first_misfit p.kinds t v ≡ None) ↔ Fits p.kinds t v }
+    ensures any { (p : Parts) → IsGood p → (t : ℕ) (v : Json) →
+        Fits p.kinds t v → first_misfit p.kinds t v ≡ None }
 {}
 
 /// The least number of each whole type and the first past it, as numbers.

@@ -1,6 +1,8 @@
-use Rattle.qm_admit.proofs.Fitted.{fit}
-use Rattle.qm_admit.proofs.Unfaulty.{no-fault}
+use Rattle.qm_admit.proofs.FitLaws.{fits-if_none, none-if_fits}
 use Rattle.qm_admit.proofs.laws.a_value_without_misfit_fits.Goals as goal
 
-pub returns : goal.returns
-returns c = λ p good t v clean. (λ h. fit p.kinds good.cycles v clean t h, λ f. no-fault p.kinds good.cycles good.choices good.alternatives v t f)
+pub returns-clause-clean : goal.returns-clause-clean
+returns-clause-clean c = λ p good t v clean. (fits-if_none p good t v clean, none-if_fits p good t v)
+
+pub returns-clause-any : goal.returns-clause-any
+returns-clause-any c = none-if_fits
