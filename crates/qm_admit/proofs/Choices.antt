@@ -1,5 +1,5 @@
 -- Types along the branches that given members choose, and the members of those types.
-use Rattle.std.proofs.Common.{◌≡◌, ◌⊎◌, ℕ, zero, suc, ◌+◌, ◌<◌, ◌≤◌, Bool, true, false, cond, ◌||◌, ◌==◌, eqb, eqb-true, eq-eqb, nat_eq, List, [], ◌∷◌, ◌++◌, map, length, refl, ap, sym, ◌∙◌, subst, inl, inr, arith, Option, Some, None, option_map, option_and_then, find, bytes_eq}
+use Rattle.std.proofs.Common.{◌≡◌, ℕ, zero, suc, ◌+◌, ◌<◌, ◌≤◌, Bool, true, false, cond, ◌||◌, ◌==◌, eqb, eqb-true, eq-eqb, nat_eq, List, [], ◌∷◌, ◌++◌, map, length, refl, ap, sym, ◌∙◌, subst, inl, inr, arith, Option, Some, None, option_map, option_and_then, find, bytes_eq}
 use Rattle.std.proofs.Math.ListN.{get_or-map, length-map}
 use Rattle.std.proofs.lemmas.{Bool.cases_lt, Bool.or_parts, Bool.false_from_ne_true, List.get_or_past, Map.Steps.length-le_from_distinct_below, Slice.Eq.bytes_eq-Decides}
 use Rattle.std.specs.List.{list_any, IsDistinct, AllByRecursion}

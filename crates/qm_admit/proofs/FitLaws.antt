@@ -1,5 +1,5 @@
 -- What fits is what has no fault.
-use Rattle.std.proofs.Common.{◌≡◌, ◌↔◌, ℕ, Option, Some, None, refl, ap, ◌∙◌}
+use Rattle.std.proofs.Common.{◌≡◌, ◌↔◌, ℕ, Option, Some, None, refl, ap}
 use Rattle.qm_json.specs.{declared.value.Json.Json, Cleanness.IsClean}
 use Rattle.qapi_types.specs.{declared.parts.Parts.Parts, Goodness.IsGood}
 use Rattle.qm_admit.specs.declared.verdict.Verdict.TheVariants.{Yes}

@@ -1,17 +1,15 @@
 -- A value in which there is no fault fits, where it is clean.
-use Rattle.std.proofs.Common.{◌≡◌, ◌⊎◌, ℕ, ◌+◌, Bool, true, false, ◌&&◌, List, [], ◌∷◌, map, length, refl, ap, sym, ◌∙◌, subst, inl, inr, Option, Some, None, find}
+use Rattle.std.proofs.Common.{◌≡◌, ℕ, ◌+◌, true, ◌&&◌, List, [], ◌∷◌, map, length, refl, ap, sym, ◌∙◌, inl, inr, Option, Some, None, find}
 use Rattle.std.specs.List.{list_all, AllByRecursion}
 use Rattle.std.proofs.lemmas.Bool.{and_parts}
 use Rattle.qm_base.specs.Names.{is_named}
 use Rattle.qm_json.specs.declared.value.{Json.Json, Json.out-Json, Json.roll-Json, Member.Member}
-use Rattle.qm_json.specs.declared.value.Json.TheVariants as json
 use Rattle.qm_json.specs.declared.value.Json.TheVariants.{rolls-Arr, rolls-Obj}
 use Rattle.qm_json.specs.declared.value.Json.TheViews.{roll-out-Json}
 use Rattle.qm_json.specs.declared.value.Json.TheOpen.{Json-F}
 use Rattle.qm_json.specs.declared.value.Json.TheOpen as layer
 use Rattle.qm_json.specs.Cleanness.{IsClean, is_clean, is_clean_member, are_distinct}
 use Rattle.qm_json.specs.Members.{has_name}
-use Rattle.std.specs.Str.{is_utf8}
 use Rattle.qm_json.proofs.CleanLaws.{is_clean-Arr, is_clean-Obj, is_clean_member-is}
 use Rattle.qm_json.proofs.Distinct.{names}
 use Rattle.qapi_types.specs.declared.kind.{JsonKind.JsonKind, Kind.Kind, MemberDef.MemberDef, ObjectDef.ObjectDef}
@@ -19,13 +17,12 @@ use Rattle.qapi_types.specs.declared.kind.Kind.TheVariants as kinds
 use Rattle.qapi_types.specs.Types.{kind_of, branch_types, value_names, json_kind_of}
 use Rattle.qapi_types.specs.Chains.{NoneOnCycle}
 use Rattle.qm_admit.specs.Ranges.{is_in_range}
-use Rattle.qm_admit.specs.Views.{View, IsArr, IsObj, view_of, layer_view, kind_in}
+use Rattle.qm_admit.specs.Views.{layer_view, kind_in}
 use Rattle.qm_admit.specs.Fitting.{Among, fits_plainly, IsMember, HasMandatory, Fits, plain, array, alternate, object, FitItems, no_items, items, FitMembers, no_members, members}
-use Rattle.qm_admit.specs.declared.path.PathStep.TheVariants.{Place}
-use Rattle.qm_admit.specs.Misfits.{Misfit, inner_of, inside, items_misfit, types_misfit, unknown_misfit, object_misfit, choices_of, kind_misfit, is_of, alternative_of, walked_as, first_misfit}
+use Rattle.qm_admit.specs.Misfits.{inner_of, items_misfit, types_misfit, object_misfit, kind_misfit, is_of, alternative_of, walked_as, first_misfit}
 use Rattle.qm_admit.proofs.Layers.{asked_members, asked_layer, misfit-is, Parts, every-layer}
 use Rattle.qm_admit.proofs.Lists.{part-among, passes-among, found-among}
-use Rattle.qm_admit.proofs.Choices.{types_along, OfType, listed, chosen-member}
+use Rattle.qm_admit.proofs.Choices.{types_along, listed, chosen-member}
 use Rattle.qm_admit.proofs.Members.{or-first, or-second, mapped-none, passed, named-once, has-among, Checked, gone, good, types-each, Known, all-known}
 
 -- why a layer has no fault at a type of the kind
@@ -72,7 +69,7 @@ module _ (table : List Kind) (cycles : NoneOnCycle (map branch_types table) (len
   fit-items e place (v ∷ vs) all c h =
       let parts = and_parts _ _ c in
       items (all.0 parts.0 e (mapped-none _ _ (or-first _ _ h)))
-          (fit-items e (place + 1) vs all.1 parts.1 (or-second _ _ h))
+      (fit-items e (place + 1) vs all.1 parts.1 (or-second _ _ h))
 
   fit-members : (given : List Member) (t : ℕ) (xs : List Member) → ((x : Member) → Among x xs → Among x given) → AllByRecursion (λ (x : Member). FitsUnlessFaulty x.value) given → are_distinct (names given) ≡ true →
       list_all is_clean_member given ≡ true → ((x : Member) → Among x given → Known table given (types_along table given t) x.name) → ((m : MemberDef) → IsMember table given t m → Checked table given m) → FitMembers table given t xs
@@ -83,7 +80,7 @@ module _ (table : List Kind) (cycles : NoneOnCycle (map branch_types table) (len
       let m = chosen-member table given t k.type_id k.member k.among k.is in
       let clean : IsClean x.value = (and_parts _ _ (sym (is_clean_member-is x) ∙ passes-among is_clean_member x given c a)).1 in
       members k.member m k.named (part-among (λ (x : Member). FitsUnlessFaulty x.value) x given all a clean k.member.type_id (unfaulty x a k.member k.named (checks k.member m)))
-          (fit-members given t xs (λ y a. within y (inr a)) all d c known checks)
+      (fit-members given t xs (λ y a. within y (inr a)) all d c known checks)
     where
       unfaulty : (x : Member) → Among x given → (m : MemberDef) → m.name ≡ x.name → Checked table given m → first_misfit table m.type_id x.value ≡ None
       unfaulty x a m e (gone none o) = absurd (none x a (sym e))

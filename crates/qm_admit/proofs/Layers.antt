@@ -1,7 +1,7 @@
 -- What is asked of a value, by its outermost layer.
-use Rattle.std.proofs.Common.{◌≡◌, ℕ, Bool, List, [], ◌∷◌, map, refl, ap, sym, ◌∙◌, Option, Some, None}
+use Rattle.std.proofs.Common.{◌≡◌, ℕ, List, map, refl, ap, sym, ◌∙◌}
 use Rattle.std.specs.List.{AllByRecursion}
-use Rattle.qm_json.specs.declared.value.{Json.Json, Json.out-Json, Json.roll-Json, Json.map-Json, Member.Member, Json.TheFolds.fold-Member, Json.TheFolds.fold-roll-Json, Json.TheFolds.fold-roll-Member}
+use Rattle.qm_json.specs.declared.value.{Json.Json, Json.out-Json, Json.map-Json, Member.Member, Json.TheFolds.fold-Member, Json.TheFolds.fold-roll-Json, Json.TheFolds.fold-roll-Member}
 use Rattle.qm_json.specs.declared.value.Json.TheVariants as json
 use Rattle.qm_json.specs.declared.value.Json.TheViews.{outs-Null, outs-Bool, outs-Int, outs-Num, outs-Str, outs-Arr, outs-Obj, roll-out-Json}
 use Rattle.qm_json.specs.declared.value.Json.TheOpen.{Json-F}
@@ -10,7 +10,7 @@ use Rattle.qm_json.proofs.Inductions.{every-Json}
 use Rattle.qapi_types.specs.declared.kind.Kind.{Kind}
 use Rattle.qapi_types.specs.Types.{kind_of}
 use Rattle.qm_admit.specs.Views.{string_of, string_in, layer_view, kind_in}
-use Rattle.qm_admit.specs.Misfits.{Inner, NamedInner, Misfit, inner_layer, named_layer, inner_of, text_of_layer, first_misfit, walked_as, alternative_of}
+use Rattle.qm_admit.specs.Misfits.{Inner, NamedInner, inner_layer, named_layer, inner_of, text_of_layer, first_misfit, walked_as, alternative_of}
 
 -- a member, with what is asked of its value
 abbrev pub asked : List Kind → Member → NamedInner
@@ -66,10 +66,11 @@ Parts P y = Unit {0}
 -- each value has a property that passes from the values inside a layer to its own
 pub every-layer : (P : Json → Type 0) → ((v : Json) (y : Json-F Json Member) → out-Json v ≡ y → Parts P y → P v) → (v : Json) → P v
 every-layer P h = every-Json P (record {
-    null = h json.Null layer.Json-F.Null outs-Null tt;
-    bool = λ b. h (json.Bool b) (layer.Json-F.Bool b) (outs-Bool b) tt;
-    int = λ n. h (json.Int n) (layer.Json-F.Int n) (outs-Int n) tt;
-    num = λ text. h (json.Num text) (layer.Json-F.Num text) (outs-Num text) tt;
-    string = λ bytes. h (json.Str bytes) (layer.Json-F.Str bytes) (outs-Str bytes) tt;
-    array = λ items all. h (json.Arr items) (layer.Json-F.Arr items) (outs-Arr items) all;
-    object = λ members all. h (json.Obj members) (layer.Json-F.Obj members) (outs-Obj members) all })
+  null = h json.Null layer.Json-F.Null outs-Null tt;
+  bool = λ b. h (json.Bool b) (layer.Json-F.Bool b) (outs-Bool b) tt;
+  int = λ n. h (json.Int n) (layer.Json-F.Int n) (outs-Int n) tt;
+  num = λ text. h (json.Num text) (layer.Json-F.Num text) (outs-Num text) tt;
+  string = λ bytes. h (json.Str bytes) (layer.Json-F.Str bytes) (outs-Str bytes) tt;
+  array = λ items all. h (json.Arr items) (layer.Json-F.Arr items) (outs-Arr items) all;
+  object = λ members all. h (json.Obj members) (layer.Json-F.Obj members) (outs-Obj members) all;
+})

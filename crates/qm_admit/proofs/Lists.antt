@@ -1,5 +1,5 @@
 -- What stands in a list, and what a search in it finds.
-use Rattle.std.proofs.Common.{◌≡◌, ◌⊎◌, ℕ, zero, suc, ◌+◌, ◌<◌, ◌≤◌, Bool, true, false, cond, not, ◌||◌, List, [], ◌∷◌, map, length, refl, ap, sym, ◌∙◌, subst, inl, inr, arith, Option, Some, None, All, AllPairs, slice_get, find, position, bytes_eq}
+use Rattle.std.proofs.Common.{◌≡◌, ℕ, zero, suc, ◌+◌, Bool, true, false, cond, ◌||◌, List, [], ◌∷◌, map, refl, ap, sym, ◌∙◌, subst, inl, inr, arith, Some, None, All, AllPairs, slice_get, find, position, bytes_eq}
 use Rattle.std.specs.List.{list_all, list_any, AllByRecursion, position_from}
 use Rattle.std.proofs.lemmas.{Bool.and_parts, List.Elements.recursion_from_All, Iterator.Adapters.position_from-zero, Slice.Eq.bytes_eq-Decides}
 use Rattle.qm_base.specs.Names.{is_named}

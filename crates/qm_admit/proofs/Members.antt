@@ -1,5 +1,5 @@
 -- The members of an object type, and those that a value gives.
-use Rattle.std.proofs.Common.{◌≡◌, ℕ, ◌+◌, Bool, true, false, cond, not, List, [], ◌∷◌, map, refl, ap, sym, ◌∙◌, subst, inl, inr, Option, Some, None, option_map, option_and_then, position, bytes_eq}
+use Rattle.std.proofs.Common.{◌≡◌, ℕ, ◌+◌, Bool, true, false, cond, not, List, [], ◌∷◌, refl, ap, sym, ◌∙◌, subst, inl, inr, Option, Some, None, option_map, option_and_then, bytes_eq}
 use Rattle.std.specs.{List.list_any, Option.option_or}
 use Rattle.std.proofs.lemmas.{Bool.and_parts, Bool.both_ways, Bool.not-true, Bool.not-false, Slice.Eq.bytes_eq-Decides}
 use Rattle.qm_base.specs.Names.{is_named}
@@ -11,9 +11,9 @@ use Rattle.qapi_types.specs.Types.{kind_of, members_of, member_names}
 use Rattle.qm_admit.specs.declared.verdict.Fault.TheVariants.{Missing}
 use Rattle.qm_admit.specs.declared.path.PathStep.TheVariants.{Member as member_step, Absent}
 use Rattle.qm_admit.specs.Fitting.{Among}
-use Rattle.qm_admit.specs.Misfits.{Misfit, NamedInner, inside, first_misfit, place_in, given_misfit, member_misfit, members_misfit, types_misfit, is_known, unknown_misfit}
+use Rattle.qm_admit.specs.Misfits.{Misfit, NamedInner, inside, first_misfit, given_misfit, member_misfit, members_misfit, types_misfit, is_known, unknown_misfit}
 use Rattle.qm_admit.proofs.Layers.{asked, asked_members}
-use Rattle.qm_admit.proofs.Lists.{among-map, Source, among-source, Witness, witness, any-among, PlaceIn, nowhere, somewhere, place-in, named-among, among-named}
+use Rattle.qm_admit.proofs.Lists.{among-map, among-source, witness, any-among, PlaceIn, nowhere, somewhere, place-in, named-among, among-named}
 
 pub or-none : {X : Type 0} (a b : Option X) → a ≡ None → b ≡ None → option_or a b ≡ None
 or-none None b h k = k

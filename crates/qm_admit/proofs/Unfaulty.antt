@@ -8,7 +8,7 @@ use Rattle.qm_json.specs.declared.value.Json.TheOpen as layer
 use Rattle.qapi_types.specs.declared.kind.{JsonKind.JsonKind, Kind.Kind, MemberDef.MemberDef, ObjectDef.ObjectDef}
 use Rattle.qapi_types.specs.declared.kind.JsonKind.TheVariants as sorts
 use Rattle.qapi_types.specs.declared.kind.Kind.TheVariants as kinds
-use Rattle.qapi_types.specs.Types.{kind_of, members_of, branch_types, value_names, json_kind_of}
+use Rattle.qapi_types.specs.Types.{kind_of, branch_types, value_names, json_kind_of}
 use Rattle.qapi_types.specs.Chains.{NoneOnCycle}
 use Rattle.qapi_types.specs.Choices.{AllApart}
 use Rattle.qapi_types.specs.Goodness.{HasApartAlternatives, AreToldApart, choices_of as choices_table}
@@ -16,10 +16,10 @@ use Rattle.qm_admit.specs.Ranges.{is_in_range}
 use Rattle.qm_admit.specs.Views.{View, IsArr, IsObj, view_of, layer_view, kind_in}
 use Rattle.qm_admit.specs.Fitting.{Among, fits_plainly, IsMember, HasMandatory, Fits, plain, array, alternate, object, FitItems, no_items, items, FitMembers, no_members, members}
 use Rattle.qm_admit.specs.declared.path.PathStep.TheVariants.{Place}
-use Rattle.qm_admit.specs.Misfits.{inner_of, inside, items_misfit, types_misfit, is_known, unknown_misfit, object_misfit, choices_of, kind_misfit, is_of, alternative_of, walked_as, first_misfit}
+use Rattle.qm_admit.specs.Misfits.{inner_of, inside, items_misfit, is_known, object_misfit, kind_misfit, is_of, alternative_of, walked_as, first_misfit}
 use Rattle.qm_admit.proofs.Layers.{asked_members, asked_layer, misfit-is, Parts, every-layer}
 use Rattle.qm_admit.proofs.Lists.{part-among, all-among, pairs-head, pairs-tail}
-use Rattle.qm_admit.proofs.Choices.{within, types_along, OfType, listed, chosen-member, same-member}
+use Rattle.qm_admit.proofs.Choices.{within, types_along, listed, chosen-member, same-member}
 use Rattle.qm_admit.proofs.Members.{or-none, passes, unchecked, types-none, known-by, none-unknown}
 use Rattle.qm_admit.proofs.Fitted.{IsAlternate, several, one, alternates}
 
@@ -121,8 +121,8 @@ module _ (table : List Kind) (cycles : NoneOnCycle (map branch_types table) (len
       object_misfit table (asked_members table given) (types_along table given t) ≡ None
   object-none given t mandatory fs all =
       or-none _ _
-          (types-none table given types (λ u q m a b. let is = chosen-member table given t u m a b in unchecked table given u q m (mandatory m is) (λ x c e. all-fit m is x c e)))
-          (none-unknown table given types all-named)
+      (types-none table given types (λ u q m a b. let is = chosen-member table given t u m a b in unchecked table given u q m (mandatory m is) (λ x c e. all-fit m is x c e)))
+      (none-unknown table given types all-named)
     where
       types : List ℕ
       types = types_along table given t
@@ -183,8 +183,8 @@ module _ (table : List Kind) (cycles : NoneOnCycle (map branch_types table) (len
       let sort = the-sort (json_kind_of (kind_of table a)) (all-among (λ t. IsSome (json_kind_of (kind_of table t))) a types apart.0 among) in
       let is : kind_in y ≡ sort.0 = ap kind_in (sym o) ∙ fits-sort sort.0 f sort.1 in
       ap (λ kind. walked_as table (alternative_of table (kind_in y) t kind) (asked_layer table y)) k
-          ∙ ap (λ o. walked_as table o (asked_layer table y)) (the-alternative table (kind_in y) a types apart.1 among (sort.1 ∙ ap Some (sym is)))
-          ∙ one-sort y sort.0 o all f sort.1
+      ∙ ap (λ o. walked_as table o (asked_layer table y)) (the-alternative table (kind_in y) a types apart.1 among (sort.1 ∙ ap Some (sym is)))
+      ∙ one-sort y sort.0 o all f sort.1
 
   pub no-fault : (v : Json) → FaultlessIfFits v
   no-fault = every-layer FaultlessIfFits (λ v y o all t f. misfit-is table t v y o ∙ faultless y o all f)
