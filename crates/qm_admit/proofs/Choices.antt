@@ -16,7 +16,7 @@ use Rattle.qm_admit.specs.Tags.{Case, Tag, tag_of, branch_at, branch_for, cases_
 use Rattle.qm_admit.specs.Fitting.{Among, IsMember, own, of_branch, chosen, text_in}
 use Rattle.qm_admit.specs.Misfits.{NamedInner, choices_from, choices_of, text_in as asked_text}
 use Rattle.qm_admit.proofs.Layers.{asked, asked_members, text-is}
-use Rattle.qm_admit.proofs.Lists.{named-among}
+use Rattle.qm_admit.proofs.Lists.{among-map, any-among, found-among, named-among}
 use Rattle.qm_admit.specs.Views.{string_of}
 
 row-is : (table : List Kind) (t : ℕ) → row_of (map branch_types table) t ≡ branch_types (kind_of table t)
@@ -29,36 +29,35 @@ names-are table t = get_or-map member_names table t kinds.Null
 pub within : (table : List Kind) (t : ℕ) (P : Kind → Type 0) → P (kind_of table t) → (P kinds.Null → ⊥) → t < length table
 within table t P h never = elim (cases_lt t (length table)) [ inl l ↦ l | inr l ↦ absurd (never (subst P (get_or_past table t kinds.Null l) h)) ]
 
-found-branch : (p b : ℕ) (branches : List Branch) → option_map (λ (x : Branch). x.type_id) (find (λ (x : Branch). x.value == p) branches) ≡ Some b → has b (map (λ (x : Branch). x.type_id) branches) ≡ true
-found-branch p b [] h = absurd cc
-found-branch p b (x ∷ branches) h = by_case (found-branch p b branches) (x.value == p) h
+found-branch : (p b : ℕ) (branches : List Branch) → branch_at branches p ≡ Some b → has b (map (λ (x : Branch). x.type_id) branches) ≡ true
+found-branch p b branches h = by_found (find (λ (x : Branch). x.value == p) branches) refl h
   where
-    by_case : (option_map (λ (x : Branch). x.type_id) (find (λ (x : Branch). x.value == p) branches) ≡ Some b → has b (map (λ (x : Branch). x.type_id) branches) ≡ true) → (r : Bool) →
-        option_map (λ (x : Branch). x.type_id) (cond r (Some x) (find (λ (x : Branch). x.value == p) branches)) ≡ Some b → (nat_eq b x.type_id || has b (map (λ (x : Branch). x.type_id) branches)) ≡ true
-    by_case go true h = let k : x.type_id ≡ b = cc in left (nat_eq b x.type_id) (has b (map (λ (x : Branch). x.type_id) branches)) (eq-eqb b x.type_id (sym k))
-    by_case go false h = right (nat_eq b x.type_id) (has b (map (λ (x : Branch). x.type_id) branches)) (go h)
+    by_found : (o : Option Branch) → find (λ (x : Branch). x.value == p) branches ≡ o → option_map (λ (x : Branch). x.type_id) o ≡ Some b → has b (map (λ (x : Branch). x.type_id) branches) ≡ true
+    by_found None e h = absurd cc
+    by_found (Some x) e h = let k : x.type_id ≡ b = cc in
+        any-among (nat_eq b) x.type_id (map (λ (x : Branch). x.type_id) branches) (among-map (λ (x : Branch). x.type_id) x branches (found-among _ x branches e)) (eq-eqb b x.type_id (sym k))
 
-found-case : (branches : List Branch) (p : ℕ) (values : List ValueDef) (text : List ℕ) (b : ℕ) → option_and_then (λ (c : Case). c.branch) (find (λ (c : Case). bytes_eq c.name text) (cases_from branches p values)) ≡ Some b →
-    has b (map (λ (x : Branch). x.type_id) branches) ≡ true
-found-case branches p [] text b h = absurd cc
-found-case branches p (v ∷ values) text b h = by_case (found-case branches (p + 1) values text b) (bytes_eq v.name text) h
-  where
-    by_case : (option_and_then (λ (c : Case). c.branch) (find (λ (c : Case). bytes_eq c.name text) (cases_from branches (p + 1) values)) ≡ Some b → has b (map (λ (x : Branch). x.type_id) branches) ≡ true) → (r : Bool) →
-        option_and_then (λ (c : Case). c.branch) (cond r (Some (record { name = v.name; branch = branch_at branches p })) (find (λ (c : Case). bytes_eq c.name text) (cases_from branches (p + 1) values))) ≡ Some b →
-        has b (map (λ (x : Branch). x.type_id) branches) ≡ true
-    by_case go true h = found-branch p b branches h
-    by_case go false h = go h
+case-branch : (branches : List Branch) (p b : ℕ) (values : List ValueDef) (c : Case) → Among c (cases_from branches p values) → c.branch ≡ Some b → has b (map (λ (x : Branch). x.type_id) branches) ≡ true
+case-branch branches p b [] c a h = absurd a
+case-branch branches p b (v ∷ values) c (inl e) h = found-branch p b branches (ap (λ (c : Case). c.branch) e ∙ h)
+case-branch branches p b (v ∷ values) c (inr a) h = case-branch branches (p + 1) b values c a h
 
 chosen-has : (text_of : List ℕ → Option (List ℕ)) (table : List Kind) (kind : Kind) (b : ℕ) → option_and_then (λ (tag : Tag). option_and_then (λ text. branch_for text tag) (text_of tag.name)) (tag_of table kind) ≡ Some b →
     has b (branch_types kind) ≡ true
 chosen-has text_of table kind b h = by_tag (tag_member kind) h
   where
-    by_text : (m : MemberDef) (o : Option (List ℕ)) → option_and_then (λ text. branch_for text (record { name = m.name; cases = cases_from (branches_of kind) 0 (tag_values table kind) })) o ≡ Some b → has b (branch_types kind) ≡ true
-    by_text m None h = absurd cc
-    by_text m (Some text) h = found-case (branches_of kind) 0 (tag_values table kind) text b h
+    cases : List Case
+    cases = cases_from (branches_of kind) 0 (tag_values table kind)
 
-    by_tag : (o : Option MemberDef) → option_and_then (λ (tag : Tag). option_and_then (λ text. branch_for text tag) (text_of tag.name))
-        (option_map (λ (m : MemberDef). record { name = m.name; cases = cases_from (branches_of kind) 0 (tag_values table kind) }) o) ≡ Some b → has b (branch_types kind) ≡ true
+    by_case : (text : List ℕ) (o : Option Case) → find (λ (c : Case). bytes_eq c.name text) cases ≡ o → option_and_then (λ (c : Case). c.branch) o ≡ Some b → has b (branch_types kind) ≡ true
+    by_case text None e h = absurd cc
+    by_case text (Some c) e h = case-branch (branches_of kind) 0 b (tag_values table kind) c (found-among _ c cases e) h
+
+    by_text : (m : MemberDef) (o : Option (List ℕ)) → option_and_then (λ text. branch_for text (record { name = m.name; cases = cases })) o ≡ Some b → has b (branch_types kind) ≡ true
+    by_text m None h = absurd cc
+    by_text m (Some text) h = by_case text (find (λ (c : Case). bytes_eq c.name text) cases) refl h
+
+    by_tag : (o : Option MemberDef) → option_and_then (λ (tag : Tag). option_and_then (λ text. branch_for text tag) (text_of tag.name)) (option_map (λ (m : MemberDef). record { name = m.name; cases = cases }) o) ≡ Some b → has b (branch_types kind) ≡ true
     by_tag None h = absurd cc
     by_tag (Some m) h = by_text m (text_of m.name) h
 
