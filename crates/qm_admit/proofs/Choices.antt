@@ -10,7 +10,7 @@ use Rattle.qapi_types.specs.Types.{kind_of, members_of, member_names, branches_o
 use Rattle.qapi_types.specs.Chains.{has, row_of, Refers, Leads, by_one, and_one, NoneOnCycle}
 use Rattle.qapi_types.specs.Choices.{times, names_of, Along, stays, takes, AllApart}
 use Rattle.qapi_types.specs.Goodness.{choices_of as choices_table}
-use Rattle.qapi_types.proofs.ChainLaws.{either, left, right}
+use Rattle.qapi_types.proofs.ChainLaws.{either}
 use Rattle.qapi_types.proofs.ChoiceLaws.{times-append, times-stands}
 use Rattle.qm_admit.specs.Tags.{Case, Tag, tag_of, branch_at, branch_for, cases_from, chosen_by}
 use Rattle.qm_admit.specs.Fitting.{Among, IsMember, own, of_branch, chosen, text_in}
