@@ -1,0 +1,7 @@
+pub mod Choices
+pub mod FitLaws
+pub mod Fitted
+pub mod Layers
+pub mod Lists
+pub mod Members
+pub mod Unfaulty

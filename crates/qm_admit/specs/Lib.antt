@@ -1,0 +1,6 @@
+pub mod Fitting
+pub mod Misfits
+pub mod Paths
+pub mod Ranges
+pub mod Tags
+pub mod Views
