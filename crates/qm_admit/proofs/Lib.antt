@@ -1,6 +1,7 @@
 pub mod Choices
 pub mod FitLaws
 pub mod Fitted
+pub mod Inductions
 pub mod Layers
 pub mod Lists
 pub mod Members
