@@ -1,5 +1,5 @@
 -- Types along the branches that given members choose, and the members of those types.
-use Rattle.std.proofs.Common.{◌≡◌, ℕ, zero, suc, ◌+◌, ◌<◌, ◌≤◌, Bool, true, false, cond, ◌||◌, ◌==◌, eqb, eqb-true, eq-eqb, nat_eq, List, [], ◌∷◌, ◌++◌, map, length, refl, ap, sym, ◌∙◌, subst, inl, inr, arith, Option, Some, None, option_map, option_and_then, find, bytes_eq}
+use Rattle.std.proofs.Common.{◌≡◌, ℕ, zero, suc, ◌+◌, ◌<◌, ◌≤◌, true, false, cond, ◌||◌, ◌==◌, eqb, eqb-true, eq-eqb, nat_eq, List, [], ◌∷◌, ◌++◌, map, length, refl, ap, sym, ◌∙◌, subst, inl, inr, arith, Option, Some, None, option_map, option_and_then, find, bytes_eq}
 use Rattle.std.proofs.Math.ListN.{get_or-map, length-map}
 use Rattle.std.proofs.lemmas.{Bool.cases_lt, Bool.or_parts, Bool.false_from_ne_true, List.get_or_past, Map.Steps.length-le_from_distinct_below, Slice.Eq.bytes_eq-Decides}
 use Rattle.std.specs.List.{list_any, IsDistinct, AllByRecursion}
@@ -12,13 +12,12 @@ use Rattle.qapi_types.specs.Choices.{times, names_of, Along, stays, takes, AllAp
 use Rattle.qapi_types.specs.Goodness.{choices_of as choices_table}
 use Rattle.qapi_types.proofs.ChainLaws.{either}
 use Rattle.qapi_types.proofs.ChoiceLaws.{times-append, times-stands}
-use Rattle.qm_admit.specs.Tags.{Case, Tag, tag_of, branch_at, branch_for, cases_from, chosen_by}
+use Rattle.qm_admit.specs.Tags.{Case, Tag, tag_of, branch_at, branch_for, cases_from}
 use Rattle.qm_admit.specs.Fitting.{Among, IsMember, own, of_branch, chosen, text_in}
-use Rattle.qm_admit.specs.Misfits.{NamedInner, choices_from, choices_of, text_in as asked_text}
+use Rattle.qm_admit.specs.Misfits.{NamedInner, choices_from}
 use Rattle.qm_admit.specs.Walks.{inners, chosen_types}
 use Rattle.qm_admit.proofs.Layers.{chosen-in}
 use Rattle.qm_admit.proofs.Lists.{among-map, any-among, found-among, named-among}
-use Rattle.qm_admit.specs.Views.{string_of}
 
 row-is : (table : List Kind) (t : ℕ) → row_of (map branch_types table) t ≡ branch_types (kind_of table t)
 row-is table t = get_or-map branch_types table t kinds.Null
