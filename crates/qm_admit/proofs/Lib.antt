@@ -1,0 +1,5 @@
+pub mod GoodParts
+pub mod Layers
+pub mod Positions
+pub mod Steps
+pub mod TagLaws
