@@ -23,8 +23,8 @@ use Rattle.qm_admit.specs.Misfits.{inner_of, items_misfit, types_misfit, object_
 use Rattle.qm_admit.specs.Walks.{inners, chosen_types, asked}
 use Rattle.qm_admit.proofs.{Layers.first-is, Inductions.Inside, Inductions.every-layer}
 use Rattle.qm_admit.proofs.Lists.{part-among, passes-among, found-among}
-use Rattle.qm_admit.proofs.Choices.{listed, chosen-member}
-use Rattle.qm_admit.proofs.Members.{or-first, or-second, mapped-none, passed, named-once, has-among, Checked, gone, good, types-each, Known, all-known}
+use Rattle.qm_admit.proofs.Branches.{listed, chosen-member}
+use Rattle.qm_admit.proofs.GivenMembers.{or-first, or-second, mapped-none, passed, named-once, has-among, Checked, gone, good, types-each, Known, all-known}
 
 -- the first fault of a value, by its layer
 pub first-at : (table : List Kind) (t : ℕ) (v : Json) (y : Json-F Json Member) → out-Json v ≡ y → first_misfit table t v ≡ walked_as table (alternative_of table (kind_in y) t (kind_of table t)) (asked table y)

@@ -20,8 +20,8 @@ use Rattle.qm_admit.specs.Misfits.{inner_of, inside, items_misfit, is_known, obj
 use Rattle.qm_admit.specs.Walks.{inners, chosen_types, asked}
 use Rattle.qm_admit.proofs.Inductions.{Inside, every-layer}
 use Rattle.qm_admit.proofs.Lists.{part-among, all-among, pairs-head, pairs-tail}
-use Rattle.qm_admit.proofs.Choices.{within, listed, chosen-member, same-member}
-use Rattle.qm_admit.proofs.Members.{or-none, passes, unchecked, types-none, known-by, none-unknown}
+use Rattle.qm_admit.proofs.Branches.{within, listed, chosen-member, same-member}
+use Rattle.qm_admit.proofs.GivenMembers.{or-none, passes, unchecked, types-none, known-by, none-unknown}
 use Rattle.qm_admit.proofs.Fitted.{first-at, IsAlternate, several, one, alternates}
 
 plain-none : (table : List Kind) (t : ℕ) (kind : Kind) (y : Json-F Json Member) → fits_plainly kind (layer_view y) ≡ true → kind_misfit table t kind (asked table y) ≡ None

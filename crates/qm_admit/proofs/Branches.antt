@@ -16,7 +16,7 @@ use Rattle.qm_admit.specs.Tags.{Case, Tag, tag_of, branch_at, branch_for, cases_
 use Rattle.qm_admit.specs.Fitting.{Among, IsMember, own, of_branch, chosen, text_in}
 use Rattle.qm_admit.specs.Misfits.{NamedInner, choices_from}
 use Rattle.qm_admit.specs.Walks.{inners, chosen_types}
-use Rattle.qm_admit.proofs.Layers.{chosen-in}
+use Rattle.qm_admit.proofs.{Layers.chosen-in, Steps.no-choice}
 use Rattle.qm_admit.proofs.Lists.{among-map, any-among, found-among, named-among}
 
 row-is : (table : List Kind) (t : ℕ) → row_of (map branch_types table) t ≡ branch_types (kind_of table t)
@@ -120,10 +120,6 @@ module _ (table : List Kind) (cycles : NoneOnCycle (map branch_types table) (len
   unfolding IsDistinct
   listed given {t = t} r = listed-from given (length table) [] (record { distinct = tt; below = λ q h. absurd cc; leads = λ q h. absurd cc; room = omega arith }) r
 
-no-choices : (k : ℕ) (table : List Kind) (given : List NamedInner) → choices_from k table given None ≡ []
-no-choices zero table given = refl
-no-choices (suc k) table given = refl
-
 chosen-from : (k : ℕ) (table : List Kind) (given : List Member) (t u : ℕ) (m : MemberDef) → Among u (choices_from k table (inners table given) (Some t)) → Among m (members_of (kind_of table u)) → IsMember table given t m
 chosen-from zero table given t u m a h = absurd a
 chosen-from (suc k) table given t u m (inl e) h = own (subst (λ t. Among m (members_of (kind_of table t))) (sym e) h)
@@ -132,7 +128,7 @@ chosen-from (suc k) table given t u m (inr a) h =
   where
     by_next : ((b : ℕ) → Among u (choices_from k table (inners table given) (Some b)) → IsMember table given b m) → (o : Option ℕ) → chosen table given t ≡ o →
         Among u (choices_from k table (inners table given) o) → IsMember table given t m
-    by_next go None e a = absurd (subst (λ (l : List ℕ). Among u l) (no-choices k table (inners table given)) a)
+    by_next go None e a = absurd (subst (λ (l : List ℕ). Among u l) (no-choice table (inners table given) k) a)
     by_next go (Some b) e a = of_branch b e (go b a)
 
 -- and each member of a type along the branches is one by choice of what is given
