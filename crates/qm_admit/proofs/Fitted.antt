@@ -20,18 +20,24 @@ use Rattle.qm_admit.specs.Ranges.{is_in_range}
 use Rattle.qm_admit.specs.Views.{layer_view, kind_in}
 use Rattle.qm_admit.specs.Fitting.{Among, fits_plainly, IsMember, HasMandatory, Fits, plain, array, alternate, object, FitItems, no_items, items, FitMembers, no_members, members}
 use Rattle.qm_admit.specs.Misfits.{inner_of, items_misfit, types_misfit, object_misfit, kind_misfit, is_of, alternative_of, walked_as, first_misfit}
-use Rattle.qm_admit.proofs.Layers.{asked_members, asked_layer, misfit-is, Parts, every-layer}
+use Rattle.qm_admit.specs.Walks.{inners, chosen_types, asked}
+use Rattle.qm_admit.proofs.{Layers.first-is, Inductions.Inside, Inductions.every-layer}
 use Rattle.qm_admit.proofs.Lists.{part-among, passes-among, found-among}
-use Rattle.qm_admit.proofs.Choices.{types_along, listed, chosen-member}
-use Rattle.qm_admit.proofs.Members.{or-first, or-second, mapped-none, passed, named-once, has-among, Checked, gone, good, types-each, Known, all-known}
+use Rattle.qm_admit.proofs.Branches.{listed, chosen-member}
+use Rattle.qm_admit.proofs.GivenMembers.{or-first, or-second, mapped-none, passed, named-once, has-among, Checked, gone, good, types-each, Known, all-known}
+
+-- the first fault of a value, by its layer
+pub first-at : (table : List Kind) (t : ℕ) (v : Json) (y : Json-F Json Member) → out-Json v ≡ y → first_misfit table t v ≡ walked_as table (alternative_of table (kind_in y) t (kind_of table t)) (asked table y)
+first-at table t v y o = first-is table t v ∙ ap (λ (y : Json-F Json Member). walked_as table (alternative_of table (kind_in y) t (kind_of table t)) (asked table y)) o
 
 -- why a layer has no fault at a type of the kind
 pub data IsFaultless (table : List Kind) (t : ℕ) : Kind → Json-F Json Member → Type 0 where
   by_itself : {kind : Kind} {y : Json-F Json Member} → fits_plainly kind (layer_view y) ≡ true → IsFaultless table t kind y
   by_items : (e : ℕ) (vs : List Json) → items_misfit e 0 (map (inner_of table) vs) ≡ None → IsFaultless table t (kinds.Array e) (layer.Json-F.Arr vs)
-  by_members : (def : ObjectDef) (given : List Member) → object_misfit table (asked_members table given) (types_along table given t) ≡ None → IsFaultless table t (kinds.Object def) (layer.Json-F.Obj given)
+  by_members : (def : ObjectDef) (given : List Member) → object_misfit table (inners table given) (chosen_types table given t) ≡ None → IsFaultless table t (kinds.Object def) (layer.Json-F.Obj given)
 
-faultless-layer : (table : List Kind) (t : ℕ) (kind : Kind) (y : Json-F Json Member) → kind_misfit table t kind (asked_layer table y) ≡ None → IsFaultless table t kind y
+faultless-layer : (table : List Kind) (t : ℕ) (kind : Kind) (y : Json-F Json Member) → kind_misfit table t kind (asked table y) ≡ None → IsFaultless table t kind y
+unfolding asked
 faultless-layer table t kinds.Any y h = by_itself refl
 faultless-layer table t kinds.Null layer.Json-F.Null h = by_itself refl
 faultless-layer table t kinds.Bool (layer.Json-F.Bool b) h = by_itself refl
@@ -72,7 +78,7 @@ module _ (table : List Kind) (cycles : NoneOnCycle (map branch_types table) (len
       (fit-items e (place + 1) vs all.1 parts.1 (or-second _ _ h))
 
   fit-members : (given : List Member) (t : ℕ) (xs : List Member) → ((x : Member) → Among x xs → Among x given) → AllByRecursion (λ (x : Member). FitsUnlessFaulty x.value) given → are_distinct (names given) ≡ true →
-      list_all is_clean_member given ≡ true → ((x : Member) → Among x given → Known table given (types_along table given t) x.name) → ((m : MemberDef) → IsMember table given t m → Checked table given m) → FitMembers table given t xs
+      list_all is_clean_member given ≡ true → ((x : Member) → Among x given → Known table given (chosen_types table given t) x.name) → ((m : MemberDef) → IsMember table given t m → Checked table given m) → FitMembers table given t xs
   fit-members given t [] within all d c known checks = no_members
   fit-members given t (x ∷ xs) within all d c known checks =
       let a = within x (inl refl) in
@@ -93,38 +99,38 @@ module _ (table : List Kind) (cycles : NoneOnCycle (map branch_types table) (len
       by_check (gone none p) = absurd cc
       by_check (good y b f h) = has-among y m.name given b f
 
-  checks-of : (given : List Member) (t : ℕ) → types_misfit table (asked_members table given) (types_along table given t) ≡ None → (m : MemberDef) → IsMember table given t m → Checked table given m
-  checks-of given t h m is = let l = listed table cycles given is in types-each table given (types_along table given t) h l.type_id m l.among l.member
+  checks-of : (given : List Member) (t : ℕ) → types_misfit table (inners table given) (chosen_types table given t) ≡ None → (m : MemberDef) → IsMember table given t m → Checked table given m
+  checks-of given t h m is = let l = listed table cycles given is in types-each table given (chosen_types table given t) h l.type_id m l.among l.member
 
-  fit-kind : (v : Json) (t : ℕ) (kind : Kind) (y : Json-F Json Member) → IsFaultless table t kind y → kind_of table t ≡ kind → out-Json v ≡ y → IsClean v → Parts FitsUnlessFaulty y → Fits table t v
+  fit-kind : (v : Json) (t : ℕ) (kind : Kind) (y : Json-F Json Member) → IsFaultless table t kind y → kind_of table t ≡ kind → out-Json v ≡ y → IsClean v → Inside FitsUnlessFaulty y → Fits table t v
   fit-kind v t kind y (by_itself h) k o c all = plain ((λ i. fits_plainly (k i) (layer_view (o i))) ∙ h)
   fit-kind v t kind y (by_items e vs h) k o c all = array e vs k (ap layer_view o) (fit-items e 0 vs all (clean-items v vs o c) h)
   fit-kind v t kind y (by_members def given h) k o c all =
-      let types = types_along table given t in
+      let types = chosen_types table given t in
       let parts = and_parts _ _ (clean-members v given o c) in
       let checks = checks-of given t (or-first _ _ h) in
       let known = all-known table given types (or-second _ _ h) in
       object def given k (ap layer_view o) (mandatory-given given t checks) (fit-members given t given (λ x a. a) all parts.0 parts.1 known checks)
 
-  fit-layer : (v : Json) (y : Json-F Json Member) → out-Json v ≡ y → Parts FitsUnlessFaulty y → FitsUnlessFaulty v
+  fit-layer : (v : Json) (y : Json-F Json Member) → out-Json v ≡ y → Inside FitsUnlessFaulty y → FitsUnlessFaulty v
   fit-layer v y o all c t h = by_alternate (kind_of table t) (alternates table (kind_in y) t (kind_of table t)) refl
     where
-      walk : walked_as table (alternative_of table (kind_in y) t (kind_of table t)) (asked_layer table y) ≡ None
-      walk = sym (misfit-is table t v y o) ∙ h
+      walk : walked_as table (alternative_of table (kind_in y) t (kind_of table t)) (asked table y) ≡ None
+      walk = sym (first-at table t v y o) ∙ h
 
-      at : (a : ℕ) → walked_as table (Some a) (asked_layer table y) ≡ None → Fits table a v
+      at : (a : ℕ) → walked_as table (Some a) (asked table y) ≡ None → Fits table a v
       at a w = fit-kind v a (kind_of table a) y (faultless-layer table a (kind_of table a) y w) refl o c all
 
       by_found : (types : List ℕ) (features : List (List ℕ)) (found : Option ℕ) → kind_of table t ≡ kinds.Alternate types features → find (λ a. is_of (kind_in y) (json_kind_of (kind_of table a))) types ≡ found →
-          walked_as table found (asked_layer table y) ≡ None → Fits table t v
+          walked_as table found (asked table y) ≡ None → Fits table t v
       by_found types features None k f w = absurd cc
       by_found types features (Some a) k f w = alternate types features a k (found-among (λ a. is_of (kind_in y) (json_kind_of (kind_of table a))) a types f) (at a w)
 
       by_alternate : (kind : Kind) → IsAlternate table (kind_in y) t kind → kind_of table t ≡ kind → Fits table t v
       by_alternate kind (several types features) k =
           let e = ap (alternative_of table (kind_in y) t) k in
-          by_found types features (find (λ a. is_of (kind_in y) (json_kind_of (kind_of table a))) types) k refl (ap (λ o. walked_as table o (asked_layer table y)) (sym e) ∙ walk)
-      by_alternate kind (one e) k = at t (ap (λ o. walked_as table o (asked_layer table y)) (sym (ap (alternative_of table (kind_in y) t) k ∙ e)) ∙ walk)
+          by_found types features (find (λ a. is_of (kind_in y) (json_kind_of (kind_of table a))) types) k refl (ap (λ o. walked_as table o (asked table y)) (sym e) ∙ walk)
+      by_alternate kind (one e) k = at t (ap (λ o. walked_as table o (asked table y)) (sym (ap (alternative_of table (kind_in y) t) k ∙ e)) ∙ walk)
 
   pub fit : (v : Json) → FitsUnlessFaulty v
   fit = every-layer FitsUnlessFaulty fit-layer

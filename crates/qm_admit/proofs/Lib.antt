@@ -1,7 +1,12 @@
-pub mod Choices
+pub mod Branches
 pub mod FitLaws
 pub mod Fitted
+pub mod GivenMembers
+pub mod GoodParts
+pub mod Inductions
 pub mod Layers
 pub mod Lists
-pub mod Members
+pub mod Positions
+pub mod Steps
+pub mod TagLaws
 pub mod Unfaulty

@@ -17,13 +17,15 @@ use Rattle.qm_admit.specs.Views.{View, IsArr, IsObj, view_of, layer_view, kind_i
 use Rattle.qm_admit.specs.Fitting.{Among, fits_plainly, IsMember, HasMandatory, Fits, plain, array, alternate, object, FitItems, no_items, items, FitMembers, no_members, members}
 use Rattle.qm_admit.specs.declared.path.PathStep.TheVariants.{Place}
 use Rattle.qm_admit.specs.Misfits.{inner_of, inside, items_misfit, is_known, object_misfit, kind_misfit, is_of, alternative_of, walked_as, first_misfit}
-use Rattle.qm_admit.proofs.Layers.{asked_members, asked_layer, misfit-is, Parts, every-layer}
+use Rattle.qm_admit.specs.Walks.{inners, chosen_types, asked}
+use Rattle.qm_admit.proofs.Inductions.{Inside, every-layer}
 use Rattle.qm_admit.proofs.Lists.{part-among, all-among, pairs-head, pairs-tail}
-use Rattle.qm_admit.proofs.Choices.{within, types_along, listed, chosen-member, same-member}
-use Rattle.qm_admit.proofs.Members.{or-none, passes, unchecked, types-none, known-by, none-unknown}
-use Rattle.qm_admit.proofs.Fitted.{IsAlternate, several, one, alternates}
+use Rattle.qm_admit.proofs.Branches.{within, listed, chosen-member, same-member}
+use Rattle.qm_admit.proofs.GivenMembers.{or-none, passes, unchecked, types-none, known-by, none-unknown}
+use Rattle.qm_admit.proofs.Fitted.{first-at, IsAlternate, several, one, alternates}
 
-plain-none : (table : List Kind) (t : ℕ) (kind : Kind) (y : Json-F Json Member) → fits_plainly kind (layer_view y) ≡ true → kind_misfit table t kind (asked_layer table y) ≡ None
+plain-none : (table : List Kind) (t : ℕ) (kind : Kind) (y : Json-F Json Member) → fits_plainly kind (layer_view y) ≡ true → kind_misfit table t kind (asked table y) ≡ None
+unfolding asked
 plain-none table t kinds.Any y h = refl
 plain-none table t kinds.Null layer.Json-F.Null h = refl
 plain-none table t kinds.Bool (layer.Json-F.Bool b) h = refl
@@ -118,14 +120,14 @@ module _ (table : List Kind) (cycles : NoneOnCycle (map branch_types table) (len
   items-none {e = e} (items {v = v} {vs = vs} f fs) all place = or-none _ _ (ap (inside (Place place)) (all.0 e f)) (items-none fs all.1 (place + 1))
 
   object-none : (given : List Member) (t : ℕ) → HasMandatory table given t → FitMembers table given t given → AllByRecursion (λ (x : Member). FaultlessIfFits x.value) given →
-      object_misfit table (asked_members table given) (types_along table given t) ≡ None
+      object_misfit table (inners table given) (chosen_types table given t) ≡ None
   object-none given t mandatory fs all =
       or-none _ _
       (types-none table given types (λ u q m a b. let is = chosen-member table given t u m a b in unchecked table given u q m (mandatory m is) (λ x c e. all-fit m is x c e)))
       (none-unknown table given types all-named)
     where
       types : List ℕ
-      types = types_along table given t
+      types = chosen_types table given t
 
       all-fit : (m : MemberDef) → IsMember table given t m → (x : Member) → Among x given → x.name ≡ m.name → first_misfit table m.type_id x.value ≡ None
       all-fit m is x c e =
@@ -139,23 +141,25 @@ module _ (table : List Kind) (cycles : NoneOnCycle (map branch_types table) (len
           let l = listed table cycles given f.is in
           known-by table given types l.type_id f.member x.name l.among l.member f.named
 
-  plain-at : (v : Json) (y : Json-F Json Member) (t : ℕ) → out-Json v ≡ y → fits_plainly (kind_of table t) (view_of v) ≡ true → kind_misfit table t (kind_of table t) (asked_layer table y) ≡ None
+  plain-at : (v : Json) (y : Json-F Json Member) (t : ℕ) → out-Json v ≡ y → fits_plainly (kind_of table t) (view_of v) ≡ true → kind_misfit table t (kind_of table t) (asked table y) ≡ None
   plain-at v y t o h = plain-none table t (kind_of table t) y (ap (λ (y : Json-F Json Member). fits_plainly (kind_of table t) (layer_view y)) (sym o) ∙ h)
 
-  array-at : (v : Json) (y : Json-F Json Member) (t e : ℕ) (vs : List Json) → out-Json v ≡ y → Parts FaultlessIfFits y → kind_of table t ≡ kinds.Array e → view_of v ≡ IsArr vs → FitItems table e vs →
-      kind_misfit table t (kind_of table t) (asked_layer table y) ≡ None
+  array-at : (v : Json) (y : Json-F Json Member) (t e : ℕ) (vs : List Json) → out-Json v ≡ y → Inside FaultlessIfFits y → kind_of table t ≡ kinds.Array e → view_of v ≡ IsArr vs → FitItems table e vs →
+      kind_misfit table t (kind_of table t) (asked table y) ≡ None
+  unfolding asked
   array-at v y t e vs o all k is fs =
       let s = seen-array y vs (ap layer_view (sym o) ∙ is) in
-      (λ i. kind_misfit table t (k i) (asked_layer table (s i))) ∙ items-none fs (subst (Parts FaultlessIfFits) s all) 0
+      (λ i. kind_misfit table t (k i) (asked table (s i))) ∙ items-none fs (subst (Inside FaultlessIfFits) s all) 0
 
-  object-at : (v : Json) (y : Json-F Json Member) (t : ℕ) (def : ObjectDef) (given : List Member) → out-Json v ≡ y → Parts FaultlessIfFits y → kind_of table t ≡ kinds.Object def → view_of v ≡ IsObj given → HasMandatory table given t →
-      FitMembers table given t given → kind_misfit table t (kind_of table t) (asked_layer table y) ≡ None
+  object-at : (v : Json) (y : Json-F Json Member) (t : ℕ) (def : ObjectDef) (given : List Member) → out-Json v ≡ y → Inside FaultlessIfFits y → kind_of table t ≡ kinds.Object def → view_of v ≡ IsObj given → HasMandatory table given t →
+      FitMembers table given t given → kind_misfit table t (kind_of table t) (asked table y) ≡ None
+  unfolding asked
   object-at v y t def given o all k is m fs =
       let s = seen-object y given (ap layer_view (sym o) ∙ is) in
-      (λ i. kind_misfit table t (k i) (asked_layer table (s i))) ∙ object-none given t m fs (subst (Parts FaultlessIfFits) s all)
+      (λ i. kind_misfit table t (k i) (asked table (s i))) ∙ object-none given t m fs (subst (Inside FaultlessIfFits) s all)
 
   -- the same of a type of one kind of JSON values
-  one-sort : {t : ℕ} {v : Json} (y : Json-F Json Member) (sort : JsonKind) → out-Json v ≡ y → Parts FaultlessIfFits y → Fits table t v → json_kind_of (kind_of table t) ≡ Some sort → kind_misfit table t (kind_of table t) (asked_layer table y) ≡ None
+  one-sort : {t : ℕ} {v : Json} (y : Json-F Json Member) (sort : JsonKind) → out-Json v ≡ y → Inside FaultlessIfFits y → Fits table t v → json_kind_of (kind_of table t) ≡ Some sort → kind_misfit table t (kind_of table t) (asked table y) ≡ None
   one-sort {t = t} {v = v} y sort o all (plain h) e = plain-at v y t o h
   one-sort {t = t} {v = v} y sort o all (array x vs k is fs) e = array-at v y t x vs o all k is fs
   one-sort y sort o all (alternate types features a k among f) e = let h : None ≡ Some sort = sym (ap json_kind_of k) ∙ e in absurd cc
@@ -173,18 +177,18 @@ module _ (table : List Kind) (cycles : NoneOnCycle (map branch_types table) (len
       let l : t < length table = within table t (λ (kind : Kind). kind ≡ kinds.Alternate types features) k (λ e. cc) in
       subst (λ (kind : Kind). HasApartAlternatives table kind) k (told t kinds.Null l)
 
-  faultless : {t : ℕ} {v : Json} (y : Json-F Json Member) → out-Json v ≡ y → Parts FaultlessIfFits y → Fits table t v → walked_as table (alternative_of table (kind_in y) t (kind_of table t)) (asked_layer table y) ≡ None
+  faultless : {t : ℕ} {v : Json} (y : Json-F Json Member) → out-Json v ≡ y → Inside FaultlessIfFits y → Fits table t v → walked_as table (alternative_of table (kind_in y) t (kind_of table t)) (asked table y) ≡ None
   faultless {t = t} {v = v} y o all (plain h) =
-      ap (λ o. walked_as table o (asked_layer table y)) (alone t (kind_of table t) (kind_in y) (view_of v) (alternates table (kind_in y) t (kind_of table t)) h) ∙ plain-at v y t o h
-  faultless {t = t} {v = v} y o all (array e vs k is fs) = ap (λ kind. walked_as table (alternative_of table (kind_in y) t kind) (asked_layer table y)) k ∙ array-at v y t e vs o all k is fs
-  faultless {t = t} {v = v} y o all (object def given k is m fs) = ap (λ kind. walked_as table (alternative_of table (kind_in y) t kind) (asked_layer table y)) k ∙ object-at v y t def given o all k is m fs
+      ap (λ o. walked_as table o (asked table y)) (alone t (kind_of table t) (kind_in y) (view_of v) (alternates table (kind_in y) t (kind_of table t)) h) ∙ plain-at v y t o h
+  faultless {t = t} {v = v} y o all (array e vs k is fs) = ap (λ kind. walked_as table (alternative_of table (kind_in y) t kind) (asked table y)) k ∙ array-at v y t e vs o all k is fs
+  faultless {t = t} {v = v} y o all (object def given k is m fs) = ap (λ kind. walked_as table (alternative_of table (kind_in y) t kind) (asked table y)) k ∙ object-at v y t def given o all k is m fs
   faultless {t = t} {v = v} y o all (alternate types features a k among f) =
       let apart = told-apart t types features k in
       let sort = the-sort (json_kind_of (kind_of table a)) (all-among (λ t. IsSome (json_kind_of (kind_of table t))) a types apart.0 among) in
       let is : kind_in y ≡ sort.0 = ap kind_in (sym o) ∙ fits-sort sort.0 f sort.1 in
-      ap (λ kind. walked_as table (alternative_of table (kind_in y) t kind) (asked_layer table y)) k
-      ∙ ap (λ o. walked_as table o (asked_layer table y)) (the-alternative table (kind_in y) a types apart.1 among (sort.1 ∙ ap Some (sym is)))
+      ap (λ kind. walked_as table (alternative_of table (kind_in y) t kind) (asked table y)) k
+      ∙ ap (λ o. walked_as table o (asked table y)) (the-alternative table (kind_in y) a types apart.1 among (sort.1 ∙ ap Some (sym is)))
       ∙ one-sort y sort.0 o all f sort.1
 
   pub no-fault : (v : Json) → FaultlessIfFits v
-  no-fault = every-layer FaultlessIfFits (λ v y o all t f. misfit-is table t v y o ∙ faultless y o all f)
+  no-fault = every-layer FaultlessIfFits (λ v y o all t f. first-at table t v y o ∙ faultless y o all f)

@@ -4,3 +4,4 @@ pub mod Paths
 pub mod Ranges
 pub mod Tags
 pub mod Views
+pub mod Walks

@@ -1,5 +1,5 @@
 -- Types along the branches that given members choose, and the members of those types.
-use Rattle.std.proofs.Common.{◌≡◌, ℕ, zero, suc, ◌+◌, ◌<◌, ◌≤◌, Bool, true, false, cond, ◌||◌, ◌==◌, eqb, eqb-true, eq-eqb, nat_eq, List, [], ◌∷◌, ◌++◌, map, length, refl, ap, sym, ◌∙◌, subst, inl, inr, arith, Option, Some, None, option_map, option_and_then, find, bytes_eq}
+use Rattle.std.proofs.Common.{◌≡◌, ℕ, zero, suc, ◌+◌, ◌<◌, ◌≤◌, true, false, cond, ◌||◌, ◌==◌, eqb, eqb-true, eq-eqb, nat_eq, List, [], ◌∷◌, ◌++◌, map, length, refl, ap, sym, ◌∙◌, subst, inl, inr, arith, Option, Some, None, option_map, option_and_then, find, bytes_eq}
 use Rattle.std.proofs.Math.ListN.{get_or-map, length-map}
 use Rattle.std.proofs.lemmas.{Bool.cases_lt, Bool.or_parts, Bool.false_from_ne_true, List.get_or_past, Map.Steps.length-le_from_distinct_below, Slice.Eq.bytes_eq-Decides}
 use Rattle.std.specs.List.{list_any, IsDistinct, AllByRecursion}
@@ -12,12 +12,12 @@ use Rattle.qapi_types.specs.Choices.{times, names_of, Along, stays, takes, AllAp
 use Rattle.qapi_types.specs.Goodness.{choices_of as choices_table}
 use Rattle.qapi_types.proofs.ChainLaws.{either}
 use Rattle.qapi_types.proofs.ChoiceLaws.{times-append, times-stands}
-use Rattle.qm_admit.specs.Tags.{Case, Tag, tag_of, branch_at, branch_for, cases_from, chosen_by}
+use Rattle.qm_admit.specs.Tags.{Case, Tag, tag_of, branch_at, branch_for, cases_from}
 use Rattle.qm_admit.specs.Fitting.{Among, IsMember, own, of_branch, chosen, text_in}
-use Rattle.qm_admit.specs.Misfits.{NamedInner, choices_from, choices_of, text_in as asked_text}
-use Rattle.qm_admit.proofs.Layers.{asked, asked_members, text-is}
+use Rattle.qm_admit.specs.Misfits.{NamedInner, choices_from}
+use Rattle.qm_admit.specs.Walks.{inners, chosen_types}
+use Rattle.qm_admit.proofs.{Layers.chosen-in, Steps.no-choice}
 use Rattle.qm_admit.proofs.Lists.{among-map, any-among, found-among, named-among}
-use Rattle.qm_admit.specs.Views.{string_of}
 
 row-is : (table : List Kind) (t : ℕ) → row_of (map branch_types table) t ≡ branch_types (kind_of table t)
 row-is table t = get_or-map branch_types table t kinds.Null
@@ -71,24 +71,6 @@ is_member-within : {table : List Kind} {given : List Member} {t : ℕ} {m : Memb
 is_member-within {table = table} {t = t} {m = m} (own a) = within table t (λ (kind : Kind). Among m (members_of kind)) a (λ a. a)
 is_member-within {table = table} {given = given} {t = t} (of_branch b c r) = within table t (λ (kind : Kind). has b (branch_types kind) ≡ true) (chosen-branch table given t b c) (λ h. cc)
 
--- the texts of members, and the branch that they choose
-pub text-same : (table : List Kind) (given : List Member) (name : List ℕ) → asked_text (asked_members table given) name ≡ text_in given name
-text-same table [] name = refl
-text-same table (x ∷ given) name = by_case (text-same table given name) (bytes_eq x.name name)
-  where
-    by_case : asked_text (asked_members table given) name ≡ text_in given name → (r : Bool) →
-        option_and_then (λ (x : NamedInner). x.inner.text) (cond r (Some (asked table x)) (find (λ (x : NamedInner). bytes_eq x.name name) (asked_members table given))) ≡
-        option_and_then string_of (option_map (λ (m : Member). m.value) (cond r (Some x) (find (λ (m : Member). bytes_eq m.name name) given)))
-    by_case go true = text-is table x.value
-    by_case go false = go
-
-pub chosen-same : (table : List Kind) (given : List Member) (t : ℕ) → chosen_by (asked_text (asked_members table given)) table t ≡ chosen table given t
-chosen-same table given t = λ i. chosen_by (λ name. text-same table given name i) table t
-
--- the types along the branches that given members choose
-abbrev pub types_along : List Kind → List Member → ℕ → List ℕ
-types_along table given t = choices_of table (asked_members table given) t
-
 -- types on the way to one, which are so many fewer than all
 record Walked (table : List Kind) (seen : List ℕ) (t k : ℕ) : Type 0 where
   pub distinct : IsDistinct eqb seen
@@ -125,36 +107,32 @@ module _ (table : List Kind) (cycles : NoneOnCycle (map branch_types table) (len
     pub among : Among type_id types
     pub member : Among m (members_of (kind_of table type_id))
 
-  listed-from : (given : List Member) (k : ℕ) (seen : List ℕ) {t : ℕ} {m : MemberDef} → Walked table seen t k → IsMember table given t m → OfType (choices_from k table (asked_members table given) (Some t)) m
+  listed-from : (given : List Member) (k : ℕ) (seen : List ℕ) {t : ℕ} {m : MemberDef} → Walked table seen t k → IsMember table given t m → OfType (choices_from k table (inners table given) (Some t)) m
   listed-from given zero seen {t = t} w r = absurd (walked-all seen t w (is_member-within r))
   listed-from given (suc k) seen {t = t} w (own a) = record { type_id = t; among = inl refl; member = a }
   listed-from given (suc k) seen {t = t} {m = m} w (of_branch b c r) =
       let l : t < length table = is_member-within {given = given} {m = m} (of_branch b c r) in
       let rest = listed-from given k (t ∷ seen) (walked-on seen t k b w l (chosen-refers table given t b c)) r in
-      record { type_id = rest.type_id; among = inr (subst (λ o. Among rest.type_id (choices_from k table (asked_members table given) o)) (sym (chosen-same table given t ∙ c)) rest.among); member = rest.member }
+      record { type_id = rest.type_id; among = inr (subst (λ o. Among rest.type_id (choices_from k table (inners table given) o)) (sym (chosen-in table given t ∙ c)) rest.among); member = rest.member }
 
   -- each member, by choice of what is given, is one of a type along the branches
-  pub listed : (given : List Member) {t : ℕ} {m : MemberDef} → IsMember table given t m → OfType (types_along table given t) m
+  pub listed : (given : List Member) {t : ℕ} {m : MemberDef} → IsMember table given t m → OfType (chosen_types table given t) m
   unfolding IsDistinct
   listed given {t = t} r = listed-from given (length table) [] (record { distinct = tt; below = λ q h. absurd cc; leads = λ q h. absurd cc; room = omega arith }) r
 
-no-choices : (k : ℕ) (table : List Kind) (given : List NamedInner) → choices_from k table given None ≡ []
-no-choices zero table given = refl
-no-choices (suc k) table given = refl
-
-chosen-from : (k : ℕ) (table : List Kind) (given : List Member) (t u : ℕ) (m : MemberDef) → Among u (choices_from k table (asked_members table given) (Some t)) → Among m (members_of (kind_of table u)) → IsMember table given t m
+chosen-from : (k : ℕ) (table : List Kind) (given : List Member) (t u : ℕ) (m : MemberDef) → Among u (choices_from k table (inners table given) (Some t)) → Among m (members_of (kind_of table u)) → IsMember table given t m
 chosen-from zero table given t u m a h = absurd a
 chosen-from (suc k) table given t u m (inl e) h = own (subst (λ t. Among m (members_of (kind_of table t))) (sym e) h)
 chosen-from (suc k) table given t u m (inr a) h =
-    by_next (λ b a. chosen-from k table given b u m a h) (chosen table given t) refl (subst (λ o. Among u (choices_from k table (asked_members table given) o)) (chosen-same table given t) a)
+    by_next (λ b a. chosen-from k table given b u m a h) (chosen table given t) refl (subst (λ o. Among u (choices_from k table (inners table given) o)) (chosen-in table given t) a)
   where
-    by_next : ((b : ℕ) → Among u (choices_from k table (asked_members table given) (Some b)) → IsMember table given b m) → (o : Option ℕ) → chosen table given t ≡ o →
-        Among u (choices_from k table (asked_members table given) o) → IsMember table given t m
-    by_next go None e a = absurd (subst (λ (l : List ℕ). Among u l) (no-choices k table (asked_members table given)) a)
+    by_next : ((b : ℕ) → Among u (choices_from k table (inners table given) (Some b)) → IsMember table given b m) → (o : Option ℕ) → chosen table given t ≡ o →
+        Among u (choices_from k table (inners table given) o) → IsMember table given t m
+    by_next go None e a = absurd (subst (λ (l : List ℕ). Among u l) (no-choice table (inners table given) k) a)
     by_next go (Some b) e a = of_branch b e (go b a)
 
 -- and each member of a type along the branches is one by choice of what is given
-pub chosen-member : (table : List Kind) (given : List Member) (t u : ℕ) (m : MemberDef) → Among u (types_along table given t) → Among m (members_of (kind_of table u)) → IsMember table given t m
+pub chosen-member : (table : List Kind) (given : List Member) (t u : ℕ) (m : MemberDef) → Among u (chosen_types table given t) → Among m (members_of (kind_of table u)) → IsMember table given t m
 chosen-member table given t u m a h = chosen-from (length table) table given t u m a h
 
 -- members of one name

@@ -1,0 +1,7 @@
+use Rattle.std.proofs.Common.{◌∙◌, ap, is_some, bytes_eq}
+use Rattle.qapi_types.specs.Types.{kind_of, member_names}
+use Rattle.qm_admit.proofs.Positions.{is_some-position}
+use Rattle.qm_admit.proofs.unexpected.is_member.Goals as goal
+
+pub returns : goal.returns
+returns c = c.is_some.ensures ∙ ap is_some c.find_member.ensures ∙ is_some-position (bytes_eq c.args.name.now) (member_names (kind_of c.args.schema.now.kinds c.args.type_id))
