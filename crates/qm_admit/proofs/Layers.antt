@@ -1,15 +1,14 @@
 -- What is asked of a value, by its outermost layer.
-use Rattle.std.proofs.Common.{◌≡◌, ℕ, Bool, true, false, cond, List, [], ◌∷◌, map, refl, ap, sym, ◌∙◌, subst, Option, Some, None}
+use Rattle.std.proofs.Common.{◌≡◌, ℕ, Bool, true, false, cond, List, [], ◌∷◌, map, refl, ap, sym, ◌∙◌, Option, Some}
 use Rattle.std.specs.Prelude.{find}
 use Rattle.std.specs.{Option.option_map, Option.option_and_then, Str.bytes_eq}
-use Rattle.qm_json.specs.declared.value.{Json.Json, Json.roll-Json, Json.out-Json, Json.map-Json, Member.Member, Json.TheOpen.Json-F, Json.TheOpen.Member-F, Json.TheFolds.fold-Json, Json.TheFolds.fold-Member, Json.TheFolds.fold-roll-Json, Json.TheFolds.fold-roll-Member}
+use Rattle.qm_json.specs.declared.value.{Json.Json, Json.roll-Json, Json.out-Json, Json.map-Json, Member.Member, Json.TheOpen.Json-F, Json.TheOpen.Member-F, Json.TheFolds.fold-Member, Json.TheFolds.fold-roll-Json, Json.TheFolds.fold-roll-Member}
 use Rattle.qm_json.specs.declared.value.Json.TheOpen as layer
 use Rattle.qm_json.specs.declared.value.Json.TheViews.{roll-out-Json}
-use Rattle.qm_json.specs.Members.{value_in}
 use Rattle.qapi_types.specs.declared.kind.{JsonKind.JsonKind, Kind.Kind}
 use Rattle.qapi_types.specs.Types.{kind_of}
 use Rattle.qm_admit.specs.{Fitting.chosen, Fitting.text_in as text_given, Tags.chosen_by}
-use Rattle.qm_admit.specs.Misfits.{Inner, NamedInner, Misfit, inner_layer, named_layer, inner_of, text_of_layer, text_in, first_misfit, walked_as, alternative_of}
+use Rattle.qm_admit.specs.Misfits.{Inner, NamedInner, inner_layer, named_layer, inner_of, text_of_layer, text_in, first_misfit, walked_as, alternative_of}
 use Rattle.qm_admit.specs.Views.{layer_view, string_in, string_of, kind_in}
 use Rattle.qm_admit.specs.Walks.{asked, inners, named_inner}
 

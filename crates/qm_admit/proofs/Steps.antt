@@ -1,21 +1,20 @@
 -- The steps of a walk, and what they tell.
-use Rattle.std.proofs.Common.{◌≡◌, ◌<◌, ◌≤◌, ℕ, zero, suc, ◌+◌, ◌-◌, ◌||◌, Bool, true, false, cond, List, [], ◌∷◌, map, length, drop, take, refl, ap, sym, ◌∙◌, subst, arith, Option, Some, None, IfSome, slice_get, get_or, position, ◌++◌, append_assoc, codes}
+use Rattle.std.proofs.Common.{◌≡◌, ◌<◌, ◌≤◌, ℕ, zero, suc, ◌+◌, ◌-◌, ◌||◌, Bool, true, false, cond, List, [], ◌∷◌, map, length, drop, take, refl, ap, sym, ◌∙◌, subst, arith, Option, Some, None, get_or, position, ◌++◌, append_assoc, codes}
 use Rattle.std.specs.Prelude.{not}
-use Rattle.std.specs.{Option.option_map, Option.option_and_then, Option.option_or, List.list_any, List.position_from, Str.bytes_eq}
-use Rattle.std.proofs.lemmas.Option.{slice_get-map, slice_get_read}
+use Rattle.std.specs.{Option.option_map, Option.option_or, List.list_any, Str.bytes_eq}
 use Rattle.qm_json.specs.declared.value.{Json.Json, Json.out-Json, Member.Member, Json.TheOpen.Json-F}
 use Rattle.qm_json.specs.declared.value.Json.TheOpen as layer
 use Rattle.qm_json.specs.declared.value.Json.TheVariants as json
-use Rattle.qm_json.specs.declared.value.Json.TheViews.{outs-Null, outs-Bool, outs-Int, outs-Num, outs-Str, outs-Arr, outs-Obj}
-use Rattle.qapi_types.specs.declared.kind.{JsonKind.JsonKind, Kind.Kind, MemberDef.MemberDef, ObjectDef.ObjectDef}
+use Rattle.qm_json.specs.declared.value.Json.TheViews.{outs-Arr, outs-Obj}
+use Rattle.qapi_types.specs.declared.kind.{JsonKind.JsonKind, Kind.Kind, MemberDef.MemberDef}
 use Rattle.qapi_types.specs.declared.kind.Kind.TheVariants as kinds
 use Rattle.qapi_types.specs.declared.kind.JsonKind.TheVariants as sorts
 use Rattle.qapi_types.specs.Types.{kind_of, members_of, is_array, is_object, member_names}
 use Rattle.qapi_types.proofs.TableLaws.{position-map}
-use Rattle.qm_admit.specs.declared.verdict.{Fault.Fault, Fault.TheVariants.Missing, Fault.TheVariants.Unexpected, Fault.TheVariants.WrongKind, Fault.TheVariants.NoAlternative}
-use Rattle.qm_admit.specs.declared.path.{PathStep.PathStep, PathStep.TheVariants.Member as member_step, PathStep.TheVariants.Place, PathStep.TheVariants.Absent}
+use Rattle.qm_admit.specs.declared.verdict.{Fault.Fault, Fault.TheVariants.Unexpected, Fault.TheVariants.WrongKind}
+use Rattle.qm_admit.specs.declared.path.{PathStep.PathStep, PathStep.TheVariants.Member as member_step, PathStep.TheVariants.Place}
 use Rattle.qm_admit.specs.{Fitting.chosen, Views.kind_in}
-use Rattle.qm_admit.specs.Misfits.{Misfit, Inner, NamedInner, here, inside, first_misfit, inner_of, walked_as, alternative_of, kind_misfit, items_misfit, members_misfit, member_misfit, given_misfit, place_in, types_misfit, choices_from, choices_of, unknown_misfit, object_misfit, is_known}
+use Rattle.qm_admit.specs.Misfits.{Misfit, Inner, NamedInner, here, inside, first_misfit, inner_of, walked_as, alternative_of, kind_misfit, items_misfit, members_misfit, given_misfit, place_in, types_misfit, choices_from, choices_of, unknown_misfit, object_misfit, is_known}
 use Rattle.qm_admit.specs.Walks.{Tells, at_once, asked, inners, named_inner, place_of_name, plain_misfit, value_misfit, array_misfit, given_object_misfit, item_list_misfit, is_any}
 use Rattle.qm_admit.specs.Paths.{step_text, steps_text, value_past}
 use Rattle.qm_admit.proofs.Layers.{first-is, chosen-in}

@@ -1,5 +1,5 @@
 -- The branch that a tag's value chooses, by the value's position in the tag's enum.
-use Rattle.std.proofs.Common.{◌≡◌, ℕ, zero, suc, ◌+◌, Bool, true, false, cond, List, [], ◌∷◌, map, refl, ap, sym, ◌∙◌, subst, arith, Option, Some, None, position}
+use Rattle.std.proofs.Common.{◌≡◌, ℕ, ◌+◌, Bool, true, false, cond, List, [], ◌∷◌, map, refl, ap, sym, ◌∙◌, Option, Some}
 use Rattle.std.specs.Prelude.{find}
 use Rattle.std.specs.List.{position_from}
 use Rattle.std.specs.{Option.option_map, Option.option_and_then, Str.bytes_eq}
@@ -9,7 +9,7 @@ use Rattle.qapi_types.specs.declared.kind.{Branch.Branch, Kind.Kind, MemberDef.M
 use Rattle.qapi_types.specs.{Lookups.place_of}
 use Rattle.qapi_types.specs.Types.{kind_of, branches_of, tag_member, values_of, values_at, value_names}
 use Rattle.qm_admit.specs.{Fitting.chosen, Fitting.text_in}
-use Rattle.qm_admit.specs.Tags.{Case, Tag, branch_at, cases_from, branch_for, tag_of, chosen_by}
+use Rattle.qm_admit.specs.Tags.{Case, Tag, branch_at, cases_from, branch_for, tag_of}
 use Rattle.qm_admit.proofs.Positions.{from-zero}
 
 same-test : (a b : List ℕ) → bytes_eq a b ≡ bytes_eq b a

@@ -1,6 +1,6 @@
 -- Which values fit a type (QAPI code generation guide, "Schema syntax"; ranges and the kinds of alternatives
 -- are this project's own rule).
-use Rattle.std.specs.Prelude.{◌≡◌, ℕ, Bool, true, false, ◌⊎◌, List, [], ◌∷◌, Option, Some, None, option_and_then}
+use Rattle.std.specs.Prelude.{◌≡◌, ℕ, Bool, true, false, ◌⊎◌, List, [], ◌∷◌, Option, Some, option_and_then}
 use Rattle.qm_json.specs.declared.value.{Json.Json, Member.Member}
 use Rattle.qm_json.specs.Members.{has_name, value_in}
 use Rattle.qapi_types.specs.declared.kind.{Kind.Kind, MemberDef.MemberDef, ObjectDef.ObjectDef}

@@ -1,11 +1,11 @@
 -- The first fault of a value at a type, in this project's own order of faults.
-use Rattle.std.specs.Prelude.{ℕ, zero, suc, ◌+◌, Bool, true, false, not, cond, List, [], ◌∷◌, length, map, take, slice_get, Option, Some, None, option_map, option_and_then, find, position}
+use Rattle.std.specs.Prelude.{ℕ, zero, suc, ◌+◌, Bool, true, false, not, cond, List, [], ◌∷◌, length, take, slice_get, Option, Some, None, option_map, option_and_then, find, position}
 use Rattle.std.specs.{Option.option_or, List.list_any, Str.bytes_eq}
 use Rattle.qm_json.specs.declared.value.{Json.Json, Json.out-Json, Json.TheOpen.Json-F, Json.TheOpen.Member-F, Json.TheFolds.fold-Json}
 use Rattle.qm_json.specs.declared.value.Json.TheVariants as json
 use Rattle.qm_json.specs.declared.value.Json.TheOpen as layer
 use Rattle.qm_base.specs.Names.{is_named}
-use Rattle.qapi_types.specs.declared.kind.{JsonKind.JsonKind, Kind.Kind, MemberDef.MemberDef, ObjectDef.ObjectDef}
+use Rattle.qapi_types.specs.declared.kind.{JsonKind.JsonKind, Kind.Kind, MemberDef.MemberDef}
 use Rattle.qapi_types.specs.declared.kind.JsonKind.TheVariants as sorts
 use Rattle.qapi_types.specs.declared.kind.Kind.TheVariants as kinds
 use Rattle.qapi_types.specs.declared.parts.{ArgType.ArgType, ArgType.TheVariants.AnyObject, ArgType.TheVariants.Typed, CommandDef.CommandDef, EventDef.EventDef, Parts.Parts}

@@ -1,5 +1,5 @@
 -- What the values of a union's tag choose (QAPI code generation guide, "Union types").
-use Rattle.std.specs.Prelude.{ℕ, ◌+◌, ◌==◌, List, [], ◌∷◌, Option, Some, None, option_map, option_and_then, find}
+use Rattle.std.specs.Prelude.{ℕ, ◌+◌, ◌==◌, List, [], ◌∷◌, Option, option_map, option_and_then, find}
 use Rattle.std.specs.Str.{bytes_eq}
 use Rattle.qapi_types.specs.declared.kind.{Branch.Branch, Kind.Kind, MemberDef.MemberDef, ValueDef.ValueDef}
 use Rattle.qapi_types.specs.Types.{kind_of, branches_of, tag_member, tag_values}

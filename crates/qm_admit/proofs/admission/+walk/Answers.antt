@@ -1,6 +1,6 @@
 use Rattle.std.proofs.Common.{◌-◌, ◌∙◌, ap, sym, subst, refl, arith, length, List, Option, Some, None, ℕ}
-use Rattle.qapi_types.specs.declared.kind.{Kind.Kind, MemberDef.MemberDef}
-use Rattle.qapi_types.specs.Types.{kind_of, is_array, is_object, members_of}
+use Rattle.qapi_types.specs.declared.kind.{MemberDef.MemberDef}
+use Rattle.qapi_types.specs.Types.{kind_of}
 use Rattle.qm_json.specs.declared.value.Json.{out-Json}
 use Rattle.qm_json.specs.declared.value.Json.TheOpen as layer
 use Rattle.qm_json.specs.declared.value.Json.TheViews.{outs-Null, outs-Bool, outs-Int, outs-Num, outs-Str}

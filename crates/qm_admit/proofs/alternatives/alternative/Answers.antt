@@ -1,4 +1,4 @@
-use Rattle.std.proofs.Common.{◌<◌, ◌∙◌, sym, length, subst, IfSome, Option, ℕ, List, ap}
+use Rattle.std.proofs.Common.{◌<◌, ◌∙◌, sym, length, subst, IfSome, Option, ℕ}
 use Rattle.std.specs.List.{All}
 use Rattle.qapi_types.specs.Types.{kind_of, json_kind_of}
 use Rattle.qm_admit.specs.Misfits.{is_of}

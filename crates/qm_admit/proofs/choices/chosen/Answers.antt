@@ -1,8 +1,8 @@
-use Rattle.std.proofs.Common.{◌≡◌, ◌<◌, ◌∙◌, sym, ap, subst, length, IfSome, Option, Some, ℕ, List, option_copied, refl}
+use Rattle.std.proofs.Common.{◌<◌, ◌∙◌, sym, ap, subst, length, IfSome, Option, ℕ, List, option_copied}
 use Rattle.std.specs.Option.{option_and_then}
-use Rattle.qapi_types.specs.declared.kind.{Branch.Branch, Kind.Kind, MemberDef.MemberDef}
-use Rattle.qapi_types.specs.Types.{kind_of, branches_of, tag_member}
-use Rattle.qm_admit.specs.Fitting.{chosen, text_in}
+use Rattle.qapi_types.specs.declared.kind.{Branch.Branch}
+use Rattle.qapi_types.specs.Types.{branches_of, tag_member}
+use Rattle.qm_admit.specs.Fitting.{text_in}
 use Rattle.qm_admit.specs.Tags.{branch_at}
 use Rattle.qm_admit.proofs.GoodParts.{tag-within, branch-within}
 use Rattle.qm_admit.proofs.TagLaws.{chosen-at}

@@ -4,7 +4,7 @@ use Rattle.std.specs.List.{position_from}
 use Rattle.qm_json.specs.declared.value.Member.{Member}
 use Rattle.qm_admit.specs.Misfits.{is_known}
 use Rattle.qm_admit.specs.Walks.{chosen_types}
-use Rattle.qm_admit.proofs.Positions.{from-zero, from-stops, from-passes, from-end}
+use Rattle.qm_admit.proofs.Positions.{from-zero, from-stops, from-end}
 use Rattle.qm_admit.proofs.unexpected.first_unknown.Goals as goal
 
 pub returns-then-not-is_known : goal.returns-then-not-is_known
