@@ -14,7 +14,7 @@ use Rattle.qapi_types.proofs.ChainLaws.{either}
 use Rattle.qapi_types.proofs.ChoiceLaws.{times-append, times-stands}
 use Rattle.qm_admit.specs.Tags.{Case, Tag, tag_of, branch_at, branch_for, cases_from}
 use Rattle.qm_admit.specs.Fitting.{Among, IsMember, own, of_branch, chosen, text_in}
-use Rattle.qm_admit.specs.Misfits.{NamedInner, choices_from}
+use Rattle.qm_admit.specs.Misfits.{choices_from}
 use Rattle.qm_admit.specs.Walks.{inners, chosen_types}
 use Rattle.qm_admit.proofs.{Layers.chosen-in, Steps.no-choice}
 use Rattle.qm_admit.proofs.Lists.{among-map, any-among, found-among, named-among}
