@@ -1,3 +1,4 @@
+pub mod BlockLaws
 pub mod GoodParts
 pub mod Layers
 pub mod Positions
