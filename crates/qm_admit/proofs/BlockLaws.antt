@@ -111,8 +111,5 @@ place-within given name answer e = position-within (λ (m : Member). bytes_eq m.
 own-name : (ms : List MemberDef) (i : ℕ) (m : MemberDef) → i < length ms → m ≡ get_or ms i m → get_or (map (λ (m : MemberDef). m.name) ms) i [] ≡ m.name
 own-name ms i m l e = get_or-map (λ (m : MemberDef). m.name) ms i m [] l ∙ sym (ap (λ (m : MemberDef). m.name) e)
 
-pub own-within : (ms own : List MemberDef) (i : ℕ) → ms ≡ own → i < length ms → i < length (map (λ (m : MemberDef). m.name) own)
-own-within ms own i e l = subst (λ (n : ℕ). i < n) (ap length e ∙ sym (length-map own (λ (m : MemberDef). m.name))) l
-
 pub own-place : (given : List Member) (ms own : List MemberDef) (i : ℕ) (m : MemberDef) (answer : Option ℕ) → ms ≡ own → i < length ms → m ≡ get_or ms i m → answer ≡ place_of_name given (get_or (map (λ (m : MemberDef). m.name) own) i []) → answer ≡ place_of_name given m.name
 own-place given ms own i m answer e l is a = a ∙ ap (λ (ms : List MemberDef). place_of_name given (get_or (map (λ (m : MemberDef). m.name) ms) i [])) (sym e) ∙ ap (place_of_name given) (own-name ms i m l is)
