@@ -1,3 +1,4 @@
+pub mod BlockLaws
 pub mod Branches
 pub mod FitLaws
 pub mod Fitted

@@ -1,3 +1,4 @@
+pub mod Blocks
 pub mod Fitting
 pub mod Misfits
 pub mod Paths

@@ -1,6 +1,6 @@
 ghost use Rattle.std.specs.Prelude.{◌≡◌, ◌<◌, ◌^◌, [], length, false, IfSome, IfNone};
 ghost use Rattle.std.specs.List.{All};
-ghost use Rattle.qapi_types.specs.Types.{kind_of, is_array, is_object};
+ghost use Rattle.qapi_types.specs.Types.{kind_of, members_of, is_array, is_object};
 ghost use Rattle.qm_json.specs.declared.value.Json.TheVariants.{Obj};
 ghost use Rattle.qapi_types.specs.declared.kind.Kind.TheVariants as kinds;
 ghost use Rattle.qapi_types.specs.declared.kind.MemberDef.{MemberDef as TypeMember};
@@ -9,7 +9,7 @@ ghost use Rattle.qm_admit.specs.Walks.{Tells, inners, chosen_types, value_misfit
 
 use crate::alternatives::{alternative, sort_of};
 use crate::choices::chosen;
-use crate::members::{own_members, place};
+use crate::members::{block_of, own_members, place_at};
 use crate::path::{PathList, PathStep};
 use crate::plain::{bool_fault, int_fault, null_fault, num_fault, other_fault, text_fault};
 use crate::unexpected::unexpected;
@@ -171,13 +171,16 @@ fn walk_members(
     given: &[Member],
     path: &mut PathList,
 ) -> Option<Fault>
+    requires id { type_id < length schema.now.kinds }
+    requires members { members.now ≡ members_of (kind_of schema.now.kinds type_id) }
     requires ids { All (λ (m : TypeMember). m.type_id < length schema.now.kinds) members.now }
     requires few { length members.now < 2 ^ 32 }
     requires path { path.old ≡ [] }
     ensures { Tells (members_misfit (inners schema.now.kinds given.now) type_id 0 members.now) result path.new }
 {
+    let mut block = block_of(schema, type_id, given, 0);
     for (i, member) in members.iter().enumerate() {
-        let found = place(given, member.name.as_slice());
+        let found = place_at(schema, type_id, given, &mut block, i);
         match walk_member(schema, type_id, i as u32, member, given, found, path) {
             None => {}
             Some(fault) => return Some(fault),

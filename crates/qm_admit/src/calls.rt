@@ -1,4 +1,7 @@
-ghost use Rattle.std.specs.Prelude.{◌≡◌, ◌<◌, [], length, option_copied, Option};
+ghost use Rattle.std.specs.Prelude.{◌≡◌, ◌<◌, ◌↔◌, [], length, option_copied, Option};
+ghost use Rattle.qm_json.specs.Cleanness.{IsClean};
+ghost use Rattle.qm_admit.specs.Fitting.{Fits};
+ghost use Rattle.qm_admit.specs.declared.verdict.Verdict.TheVariants.{Yes};
 ghost use Rattle.qm_json.specs.declared.value.Json.TheVariants.{Obj};
 ghost use Rattle.qm_admit.specs.Misfits.{Misfit, first_misfit, command_misfit, return_misfit, event_misfit, verdict_of, arguments_of, is_object};
 ghost use Rattle.qm_admit.specs.Walks.{Tells};
@@ -26,7 +29,9 @@ fn verdict(fault: Option<Fault>, path: PathList) -> Verdict
 pub fn admit(schema: &Schema, type_id: u32, value: &Json) -> Verdict
     requires id { type_id < length schema.now.kinds }
     ensures verdict { result ≡ verdict_of (first_misfit schema.now.kinds type_id value.now) }
+    ensures fits { IsClean value.now → (result ≡ Yes) ↔ Fits schema.now.kinds type_id value.now }
 {
+    let _parts = schema.parts();
     let mut path = PathList::new();
     let fault = walked(schema, type_id, value, &mut path);
     verdict(fault, path)

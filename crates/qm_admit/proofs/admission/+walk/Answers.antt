@@ -1,12 +1,13 @@
 use Rattle.std.proofs.Common.{◌-◌, ◌∙◌, ap, sym, subst, refl, arith, length, List, Option, Some, None, ℕ}
 use Rattle.qapi_types.specs.declared.kind.{MemberDef.MemberDef}
-use Rattle.qapi_types.specs.Types.{kind_of}
+use Rattle.qapi_types.specs.Types.{members_of, kind_of}
 use Rattle.qm_json.specs.declared.value.Json.{out-Json}
 use Rattle.qm_json.specs.declared.value.Json.TheOpen as layer
 use Rattle.qm_json.specs.declared.value.Json.TheViews.{outs-Null, outs-Bool, outs-Int, outs-Num, outs-Str}
 use Rattle.qm_admit.specs.Misfits.{members_misfit, types_misfit, choices_from}
 use Rattle.qm_admit.specs.Walks.{Tells, asked, inners, chosen_types, item_list_misfit, place_of_name}
 use Rattle.qm_admit.proofs.Steps.{no-way, walked-some, value-once, value-array, value-object, array-walked, array-other, object-other, object-stops, object-walked, item-passes, item-stops, member-passes, member-stops, choice-passes, choice-stops}
+use Rattle.qm_admit.proofs.BlockLaws.{own-place}
 use Rattle.qm_admit.proofs.admission.+walk.Goals as goal
 
 pub walked-returns-in-Some : goal.walked-returns-in-Some
@@ -51,10 +52,10 @@ pub walk_items-loop-i-preserved : goal.walk_items-loop-i-preserved
 walk_items-loop-i-preserved t c = (no-way c.in-None.ensures, item-passes c.args.schema.now.kinds c.args.element c.loop-i.i c.args.items.now c.index-items-i.result (item_list_misfit c.args.schema.now.kinds c.args.element c.args.items.now) c.loop-i-test.true c.index-items-i.is c.loop-i.invariant.1 c.in-None.ensures)
 
 pub walk_members-returns-in-Some : goal.walk_members-returns-in-Some
-walk_members-returns-in-Some t c = member-stops c.args.schema.now.kinds c.args.given.now c.args.type_id c.loop-i.i c.args.members.now c.index-members-i.result c.place-found.result (members_misfit (inners c.args.schema.now.kinds c.args.given.now) c.args.type_id 0 c.args.members.now) c.loop-i-test.true c.index-members-i.is (c.place-found.ensures.value ∙ ap (place_of_name c.args.given.now) c.as_slice.ensures) c.loop-i.invariant.1 c.in-Some.ensures
+walk_members-returns-in-Some t c = member-stops c.args.schema.now.kinds c.args.given.now c.args.type_id c.loop-i.i c.args.members.now c.index-members-i.result c.place_at-found.result (members_misfit (inners c.args.schema.now.kinds c.args.given.now) c.args.type_id 0 c.args.members.now) c.loop-i-test.true c.index-members-i.is (own-place c.args.given.now c.args.members.now (members_of (kind_of c.args.schema.now.kinds c.args.type_id)) c.loop-i.i c.index-members-i.result c.place_at-found.result c.requires.members c.loop-i-test.true c.index-members-i.is c.place_at-found.ensures.value) c.loop-i.invariant.2 c.in-Some.ensures
 
 pub walk_members-loop-i-preserved : goal.walk_members-loop-i-preserved
-walk_members-loop-i-preserved t c = (no-way c.in-None.ensures, member-passes c.args.schema.now.kinds c.args.given.now c.args.type_id c.loop-i.i c.args.members.now c.index-members-i.result c.place-found.result (members_misfit (inners c.args.schema.now.kinds c.args.given.now) c.args.type_id 0 c.args.members.now) c.loop-i-test.true c.index-members-i.is (c.place-found.ensures.value ∙ ap (place_of_name c.args.given.now) c.as_slice.ensures) c.loop-i.invariant.1 c.in-None.ensures)
+walk_members-loop-i-preserved t c = (no-way c.in-None.ensures, c.place_at-found.ensures.placed, member-passes c.args.schema.now.kinds c.args.given.now c.args.type_id c.loop-i.i c.args.members.now c.index-members-i.result c.place_at-found.result (members_misfit (inners c.args.schema.now.kinds c.args.given.now) c.args.type_id 0 c.args.members.now) c.loop-i-test.true c.index-members-i.is (own-place c.args.given.now c.args.members.now (members_of (kind_of c.args.schema.now.kinds c.args.type_id)) c.loop-i.i c.index-members-i.result c.place_at-found.result c.requires.members c.loop-i-test.true c.index-members-i.is c.place_at-found.ensures.value) c.loop-i.invariant.2 c.in-None.ensures)
 
 pub walk_choices-returns-in-Some-walk_members : goal.walk_choices-returns-in-Some-walk_members
 walk_choices-returns-in-Some-walk_members t c =
