@@ -1,0 +1,12 @@
+pub mod Bounds
+pub mod Called
+pub mod Calls
+pub mod Entries
+pub mod Introspection
+pub mod Naming
+pub mod Orders
+pub mod Prelude
+pub mod Printing
+pub mod Reading
+pub mod Tables
+pub mod Told

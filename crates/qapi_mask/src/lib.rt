@@ -1,0 +1,13 @@
+//! Introspection: what a client is told of a schema, and what it can read off it (QAPI code
+//! generation guide, "Client JSON Protocol introspection").
+#![tactic(auto)]
+
+mod calls;
+mod entries;
+pub mod laws;
+mod listing;
+mod names;
+mod naming;
+mod objects;
+mod references;
+mod standing;
