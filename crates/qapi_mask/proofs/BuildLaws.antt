@@ -1,15 +1,16 @@
 -- The list of types, as the code makes it.
-use Rattle.std.proofs.Common.{◌≡◌, ◌≤◌, ◌<◌, ◌+◌, ℕ, zero, suc, Bool, true, false, cond, List, [], ◌∷◌, ◌++◌, length, map, take, get_or, refl, sym, ap, ◌∙◌, subst, arith, inl, inr, append-nil}
+use Rattle.std.proofs.Common.{Option, Some, None, ◌≡◌, ◌≤◌, ◌<◌, ◌+◌, ◌^◌, ℕ, zero, suc, Bool, true, false, cond, List, [], ◌∷◌, ◌++◌, length, map, take, get_or, refl, sym, ap, ◌∙◌, subst, arith, inl, inr, append-nil}
 use Rattle.std.specs.Prelude.{filter}
 use Rattle.std.specs.List.{All}
 use Rattle.std.proofs.lemmas.{Grind.common_steps, List.length-append, List.map-append}
 use Rattle.qapi_types.specs.declared.{kind.Kind.Kind, parts.Parts.Parts}
-use Rattle.qapi_types.specs.{Goodness.IsGood, Types.kind_of}
+use Rattle.qapi_types.specs.{Goodness.IsGood, Goodness.RefersBelow, Types.kind_of}
 use Rattle.qm_admit.specs.Fitting.{Among}
-use Rattle.qapi_mask.specs.{Entries.refs_of, Naming.first_refs, Naming.inner_of, Naming.is_numbered, Naming.listed_of, Naming.refs_shown, Naming.shown_of, Orders.AreBelow, Orders.IsWalked, Orders.with_all, Orders.with_new}
+use Rattle.qapi_mask.specs.{Entries.refs_of, Naming.base_of, Naming.element_of, Naming.first_refs, Naming.inner_in, Naming.inner_of, Naming.is_numbered, Naming.listed_of, Naming.numbered_of, Naming.refs_shown, Naming.shown_of, Orders.AreBelow, Orders.IsWalked, Orders.with_all, Orders.with_new}
 use Rattle.qapi_mask.specs.{Prelude.HasPrelude, Prelude.empty_of, Tables.IsMarked, Tables.Tells}
 use Rattle.qapi_mask.proofs.{ListingLaws.taken, ListingLaws.told-map, OrderLaws.all-append, OrderLaws.few, Placing.has-among, Sound.IsSound, Sound.sound}
-use Rattle.qapi_mask.proofs.NamingLaws.{first-below, listed-walks, refs-below, shown-below}
+use Rattle.qapi_mask.proofs.StandingLaws.{base-below, element-below}
+use Rattle.qapi_mask.proofs.NamingLaws.{first-below, listed-walks, numbered-few, refs-below, shown-below}
 
 pub all-of : (P : ℕ → Type 0) (xs : List ℕ) → ((x : ℕ) → Among x xs → P x) → All P xs
 all-of P [] h i d l = absurd (omega (arith, l))
@@ -53,6 +54,9 @@ module _ (p : Parts) (good : IsGood p) (prelude : HasPrelude p) where
   table-within shown t i d l =
       let within : i < length p.kinds = subst (λ n. i < n) t.long l in
       subst (λ x. x < length p.kinds) (sym (same-entry shown i d 0 l ∙ t.each i within)) (shown-below p is-sound i within)
+
+  pub shown-entry : (shown : List ℕ) (t : ℕ) → Tells (shown_of p.kinds) (length p.kinds) shown → t < length p.kinds → get_or shown t 0 < length p.kinds
+  shown-entry shown t tells l = subst (λ x. x < length p.kinds) (sym (tells.each t l)) (shown-below p is-sound t l)
 
   told-in : (shown xs : List ℕ) → Tells (shown_of p.kinds) (length p.kinds) shown → All (λ x. x < length p.kinds) xs → map (λ x. get_or shown x 0) xs ≡ map (shown_of p.kinds) xs
   told-in shown xs t h = told-map (λ x. get_or shown x 0) (shown_of p.kinds) xs (λ i d l. t.each (get_or xs i d) (h i d l))
@@ -104,6 +108,25 @@ module _ (p : Parts) (good : IsGood p) (prelude : HasPrelude p) where
   pub walks-few : (w : ℕ) (found : List ℕ) → WalksTo p w found → length found ≤ length p.kinds
   walks-few w found s = let a = length-append found s.is.rest in let b = ap length s.is.ahead in let c = listed-few in omega (arith, a, b, c)
 
+  pub refs-added : (shown numbers old new : List ℕ) (t : ℕ) → Tells (shown_of p.kinds) (length p.kinds) shown → numbers ≡ refs_of p.kinds (empty_of p) (kind_of p.kinds t) →
+      new ≡ with_all old (map (λ x. get_or shown x 0) numbers) → new ≡ with_all old (refs_shown p t)
+  refs-added shown numbers old new t tells is now = now ∙ ap (λ xs. with_all old (map (λ x. get_or shown x 0) xs)) is ∙ ap (with_all old) (refs-told shown t tells)
+
+  pub firsts-added : (shown numbers old new : List ℕ) → Tells (shown_of p.kinds) (length p.kinds) shown → numbers ≡ first_refs p → old ≡ [] →
+      new ≡ with_all old (map (λ x. get_or shown x 0) numbers) → new ≡ with_all [] (map (shown_of p.kinds) (first_refs p))
+  firsts-added shown numbers old new tells is nothing now =
+      now ∙ ap (λ xs. with_all xs (map (λ x. get_or shown x 0) numbers)) nothing ∙ ap (λ xs. with_all [] (map (λ x. get_or shown x 0) xs)) is ∙ ap (with_all []) (firsts-told shown tells)
+
+  pub firsts-in : (numbers : List ℕ) (n : ℕ) → numbers ≡ first_refs p → n ≡ length p.kinds → All (λ x. x < n) numbers
+  firsts-in numbers n is long = subst (λ n. All (λ x. x < n) numbers) (sym long) (subst (λ xs. All (λ x. x < length p.kinds) xs) (sym is) firsts-within)
+
+  pub numbered-is : (found listed : List ℕ) → listed ≡ listed_of p → found ≡ with_all [] (filter (is_numbered p.kinds) (map (inner_of p.kinds) listed)) → found ≡ numbered_of p
+  unfolding numbered_of
+  numbered-is found listed is now = now ∙ ap (λ xs. with_all [] (filter (is_numbered p.kinds) (map (inner_of p.kinds) xs))) is
+
+  pub numbered-small : (found : List ℕ) → found ≡ numbered_of p → length found < 2 ^ 32
+  numbered-small found is = let few = numbered-few p is-sound in let l = ap length is in let types : length p.kinds < 2 ^ 32 = good.counts.types in omega (arith, few, l, types)
+
 -- one more of the types named by numbers, or another
 numbered-step : (b : Bool) (x : ℕ) (seen : List ℕ) → with_all seen (cond b (x ∷ []) []) ≡ cond b (with_new seen x) seen
 numbered-step true x seen = refl
@@ -124,3 +147,13 @@ numbered-more table listed found new i inner l is before now =
     ∙ sym (numbered-step (test (f x)) (f x) (with_all [] (filter test (map f (take i listed)))))
     ∙ sym (all-append [] (filter test (map f (take i listed))) (cond (test (f x)) (f x ∷ []) []))
     ∙ ap (with_all []) (sym (ap (filter test) (ap (map f) (taken listed i 0 l) ∙ map-append f (take i listed) (x ∷ [])) ∙ filter-end test (map f (take i listed)) (f x)))
+
+inner-in : (table : List Kind) (t : ℕ) (element : Option ℕ) → All (RefersBelow (length table)) table → t < length table → element_of (kind_of table t) ≡ element → inner_in table t element < length table
+inner-in table t None h l is = l
+inner-in table t (Some e) h l is = base-below table e (element-below table t e h l is)
+
+pub inner-within : (table : List Kind) (t : ℕ) → All (RefersBelow (length table)) table → t < length table → inner_of table t < length table
+inner-within table t h l = inner-in table t (element_of (kind_of table t)) h l refl
+
+pub base-entry : (table : List Kind) (bases : List ℕ) (e : ℕ) → Tells (base_of table) (length table) bases → e < length table → get_or bases e 0 < length table
+base-entry table bases e t l = subst (λ x. x < length table) (sym (t.each e l)) (base-below table e l)

@@ -16,3 +16,5 @@ pub mod Readable
 pub mod Sound
 pub mod StandingLaws
 pub mod TableLaws
+pub mod VariantLaws
+pub mod CallBounds

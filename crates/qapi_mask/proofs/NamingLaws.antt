@@ -231,7 +231,7 @@ module _ (p : Parts) (good : IsSound p) where
       let y = among-source (inner_of p.kinds) x (listed_of p) among in
       subst (λ (u : ℕ). u < length p.kinds) y.is (inner-below-at y.of (element_of (kind_of p.kinds y.of)) refl (listed-below y.of (has-among y.of (listed_of p) y.among)))
 
-  numbered-few : length (numbered_of p) ≤ length p.kinds
+  pub numbered-few : length (numbered_of p) ≤ length p.kinds
   unfolding numbered_of
   numbered-few = few-below (numbered_of p) (length p.kinds) (apart-all [] (filter (is_numbered p.kinds) (map (inner_of p.kinds) (listed_of p))) nothing-apart) numbered-below
 

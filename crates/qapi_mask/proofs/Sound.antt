@@ -46,7 +46,7 @@ tag-below n empty r branches values (Some m) e h a =
 member-below : (n r : ℕ) (ms : List MemberDef) → All (λ (m : MemberDef). m.type_id < n) ms → Among r (map (λ (m : MemberDef). m.type_id) ms) → r < n
 member-below n r ms h a = let m = among-source (λ (m : MemberDef). m.type_id) r ms a in subst (λ (u : ℕ). u < n) m.is (all-among (λ (m : MemberDef). m.type_id < n) m.of ms h m.among)
 
-refs-below : (table : List Kind) (n empty r : ℕ) (kind : Kind) → empty < n → RefersBelow n kind → Among r (refs_of table empty kind) → r < n
+pub refs-below : (table : List Kind) (n empty r : ℕ) (kind : Kind) → empty < n → RefersBelow n kind → Among r (refs_of table empty kind) → r < n
 refs-below table n empty r (kinds.Array e) l h (inl is) = subst (λ (u : ℕ). u < n) is h
 refs-below table n empty r (kinds.Array e) l h (inr a) = absurd a
 refs-below table n empty r (kinds.Object def) l h a =
@@ -79,7 +79,7 @@ one-of p None call f a = absurd a
 one-of p (Some x) call f (inl e) = subst (IsOf p) e (f x refl)
 one-of p (Some x) call f (inr a) = absurd a
 
-calls-are-of : (p : Parts) (n : ℕ) (call : Call) → Among call (calls_before p n) → IsOf p call
+pub calls-are-of : (p : Parts) (n : ℕ) (call : Call) → Among call (calls_before p n) → IsOf p call
 calls-are-of p zero call a = absurd a
 calls-are-of p (suc n) call a = elim (among-append call (calls_before p n) (one_or_none (call_at p n)) a) as (λ _. IsOf p call) [
   | inl b ↦ calls-are-of p n call b
@@ -93,7 +93,7 @@ module _ (p : Parts) (good : IsGood p) (prelude : HasPrelude p) where
   pub any-below : builtin_at p.kinds (codes "any") < length p.kinds
   any-below = place-below (λ (k : Kind). is_text (codes "any") (builtin_of k)) kinds.Null p.kinds prelude.any prelude.any_in any-text
 
-  argument-below : (a : ArgType) → TakesBelow (length p.kinds) a → argument_type p.kinds a < length p.kinds
+  pub argument-below : (a : ArgType) → TakesBelow (length p.kinds) a → argument_type p.kinds a < length p.kinds
   argument-below (Typed t) h = h
   argument-below AnyObject h = any-below
 
@@ -104,7 +104,7 @@ module _ (p : Parts) (good : IsGood p) (prelude : HasPrelude p) where
   call-below (Event e) r a (inl is) = subst (λ (u : ℕ). u < length p.kinds) is (all-among (λ (e : EventDef). e.arg < length p.kinds) e p.events good.ranges.events a)
   call-below (Event e) r a (inr b) = absurd b
 
-  empty-below : empty_of p < length p.kinds
+  pub empty-below : empty_of p < length p.kinds
   empty-below = (good.ranges.commands 0 no_command prelude.first).1
 
   plain-element : (kind : Kind) → is_array kind ≡ false → element_of kind ≡ None

@@ -90,7 +90,7 @@ case-type branches empty p [] i l = absurd (omega arith)
 case-type branches empty p (v ∷ values) zero l = ap (type_at branches empty) (omega arith)
 case-type branches empty p (v ∷ values) (suc i) l = case-type branches empty (p + 1) values i (omega (arith, l)) ∙ ap (type_at branches empty) (omega arith)
 
-cases-long : (branches : List Branch) (empty p : ℕ) (values : List ValueDef) → length (map (λ (c : Case). unwrap_or c.branch empty) (cases_from branches p values)) ≡ length values
+pub cases-long : (branches : List Branch) (empty p : ℕ) (values : List ValueDef) → length (map (λ (c : Case). unwrap_or c.branch empty) (cases_from branches p values)) ≡ length values
 cases-long branches empty p [] = refl
 cases-long branches empty p (v ∷ values) = ap suc (cases-long branches empty (p + 1) values)
 

@@ -1,5 +1,5 @@
 //! The objects that tell of types.
-ghost use Rattle.std.specs.Prelude.{◌≡◌, ◌<◌, ◌∷◌, [], ◌++◌, IfOk, OnOk, map, length};
+ghost use Rattle.std.specs.Prelude.{◌≡◌, ◌<◌, ◌∷◌, [], ◌++◌, IfOk, OnOk, codes, map, length};
 ghost use Rattle.std.specs.List.{All};
 ghost use Rattle.qm_json.specs.declared.value.Json.TheVariants as json;
 ghost use Rattle.qapi_mask.specs.Entries.{member_entry, value_entry};
@@ -38,6 +38,16 @@ pub fn put_text(
 {
     let value = Json::string(alloc, text)?;
     put(alloc, members, name, value)
+}
+
+/// What each entry begins with: its name and its sort.
+pub fn head(alloc: Global, name: &[u8], sort: &[u8]) -> Result<Items<Member>, NoMemory>
+    ensures { IfOk result (λ members. members ≡ printed.with_text (codes "name") name.now ∷ printed.with_text (codes "meta-type") sort.now ∷ []) }
+{
+    let mut members = Items::new(alloc);
+    put_text(alloc, &mut members, b"name", name)?;
+    put_text(alloc, &mut members, b"meta-type", sort)?;
+    Ok(members)
 }
 
 fn strings(alloc: Global, names: &[Text]) -> Result<Json, NoMemory>
@@ -80,6 +90,7 @@ fn member_object(alloc: Global, naming: &Naming<'_>, member: &MemberDef) -> Resu
     Ok(Json::Obj(members))
 }
 
+/// The objects that tell of members.
 pub fn member_objects(
     alloc: Global,
     naming: &Naming<'_>,
@@ -104,6 +115,7 @@ fn value_object(alloc: Global, value: &ValueDef) -> Result<Json, NoMemory>
     Ok(Json::Obj(members))
 }
 
+/// The objects that tell of values of an enum.
 pub fn value_objects(alloc: Global, values: &[ValueDef]) -> Result<Json, NoMemory>
     ensures { IfOk result (λ value. value ≡ json.Arr (map printed.value_json (map value_entry values.now))) }
 {
@@ -114,6 +126,7 @@ pub fn value_objects(alloc: Global, values: &[ValueDef]) -> Result<Json, NoMemor
     Ok(Json::Arr(items))
 }
 
+/// The names of values of an enum.
 pub fn value_names(alloc: Global, values: &[ValueDef]) -> Result<Json, NoMemory>
     ensures { IfOk result (λ value. value ≡ json.Arr (map (λ v. json.Str v.name) (map value_entry values.now))) }
 {

@@ -4,6 +4,7 @@
 
 mod calls;
 mod entries;
+mod introspection;
 pub mod laws;
 mod listing;
 mod names;
@@ -11,3 +12,5 @@ mod naming;
 mod objects;
 mod references;
 mod standing;
+
+pub use introspection::{introspect, is_listed, masked};

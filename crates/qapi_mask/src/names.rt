@@ -2,15 +2,15 @@
 ghost use Rattle.std.specs.Prelude.{◌≡◌, ◌<◌, ◌++◌, codes, length, IfOk};
 ghost use Rattle.std.specs.Fmt.{decimal as decimal_of};
 ghost use Rattle.qapi_types.specs.Goodness.{IsGood};
-ghost use Rattle.qapi_mask.specs.Naming.{listed_of, mask_of, own_name_of};
+ghost use Rattle.qapi_mask.specs.Naming.{is_listed, listed_of, mask_of, own_name_of};
 ghost use Rattle.qapi_mask.specs.Prelude.{HasPrelude};
 
 use crate::listing::entry;
-use crate::naming::Naming;
-use crate::standing::{builtin, element};
+use crate::naming::{Naming, listed, numbered, numbers};
+use crate::standing::{bases, builtin, element, shown};
 use itoa::Buffer;
-use qapi_types::Parts;
 use qapi_types::lookups::kind_at;
+use qapi_types::{Parts, Schema};
 use qm_base::{NoMemory, Text};
 use std::alloc::Global;
 
@@ -22,6 +22,26 @@ fn decimal(alloc: Global, number: u32) -> Result<Text, NoMemory>
 }
 
 impl<'a> Naming<'a> {
+    /// The listed types of a schema, and their names.
+    pub fn of(alloc: Global, schema: &'a Schema) -> Result<Naming<'a>, NoMemory>
+        requires { HasPrelude schema.now }
+        ensures { IfOk result (λ naming. naming ≡ schema.now) }
+    {
+        let parts = schema.parts();
+        let kinds = parts.kinds.as_slice();
+        let bases = bases(alloc, kinds)?;
+        let shown = shown(alloc, kinds, bases.as_slice())?;
+        let listed = listed(alloc, parts, shown.as_slice())?;
+        let numbered = numbered(alloc, kinds, bases.as_slice(), listed.found.as_slice())?;
+        let numbers = numbers(alloc, numbered.found.as_slice(), kinds.len())?;
+        Ok(Naming {
+            schema,
+            shown,
+            listed,
+            numbers,
+        })
+    }
+
     /// The schema's parts.
     pub fn parts(&self) -> &'a Parts
         ensures value { result.now ≡ self.now }
@@ -36,6 +56,14 @@ impl<'a> Naming<'a> {
         ensures { result.now ≡ listed_of self.now }
     {
         self.listed.found.as_slice()
+    }
+
+    /// Whether an entry stands for the type.
+    pub fn is_listed(&self, number: u32) -> bool
+        requires { number < length self.now.kinds }
+        ensures { result ≡ is_listed self.now number }
+    {
+        self.listed.has(entry(self.shown.as_slice(), number))
     }
 
     /// The name of a type that is no array.
