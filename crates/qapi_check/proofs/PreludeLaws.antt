@@ -1,17 +1,17 @@
 -- The table of definitions that begin with the prelude.
-use Rattle.std.proofs.Common.{◌≡◌, ◌<◌, ◌+◌, ℕ, true, cond, List, [], ◌∷◌, ◌++◌, length, get_or, Option, Some, None, Result, IfOk, refl, sym, ap, ◌∙◌, subst, inl, inr, arith}
+use Rattle.std.proofs.Common.{◌≡◌, ◌<◌, ◌+◌, ℕ, true, cond, List, [], ◌∷◌, ◌++◌, length, Option, Some, None, Result, IfOk, refl, sym, ap, ◌∙◌, subst, inl, inr, arith}
 use Rattle.std.specs.List.{enumerate_from, flat_map, list_any, slice_index_or}
-use Rattle.qapi_types.specs.declared.{kind.Kind.Kind, parts.CommandDef.CommandDef, parts.Parts.Parts}
+use Rattle.qapi_types.specs.declared.parts.{CommandDef.CommandDef, Parts.Parts}
 use Rattle.qapi_types.specs.declared.kind.Kind.TheVariants as kinds
 use Rattle.qapi_types.specs.{Prelude.HasPrelude, Prelude.no_command, Types.kind_of}
 use Rattle.qapi_define.specs.declared.definition.Definition.{Definition}
 use Rattle.qapi_define.specs.Definitions.{definitions_of}
 use Rattle.qapi_load.specs.declared.source.Source.{Source}
 use Rattle.qapi_rules.specs.declared.fault.CheckFault.{CheckFault}
-use Rattle.qapi_number.specs.declared.{implicit.ImplicitType.ImplicitType, numbering.Numbering.Numbering}
+use Rattle.qapi_number.specs.declared.numbering.Numbering.{Numbering}
 use Rattle.qapi_number.specs.declared.implicit.ImplicitType.TheVariants as implicit
 use Rattle.qapi_number.specs.Implicit.{same, implied_by, implied_by_part, implicit_types_of, lacks_data}
-use Rattle.qapi_number.specs.Kinds.{builtin_kinds, kinds_of, plain_object}
+use Rattle.qapi_number.specs.Kinds.{kinds_of, plain_object}
 use Rattle.qapi_number.specs.{Numbering.numbering_of, Numbering.number_of_implicit, TypeNames.types_of}
 use Rattle.qapi_number.specs.PartsOf.{command_def, commands_of, parts_of}
 use Rattle.qapi_number.specs.Prelude.{prelude, qmp_capabilities, without_prelude_names}

@@ -32,7 +32,7 @@ use Rattle.qapi_mask.proofs.Readable.{reads, fits}
 use Rattle.qapi_mask.proofs.Sound.{IsSound, sound, any-below}
 
 -- what stands among the elements that lists give
-among-given : {X Y : Type 0} (f : X → List Y) (y : Y) (x : X) (xs : List X) → Among x xs → Among y (f x) → Among y (flat_map f xs)
+pub among-given : {X Y : Type 0} (f : X → List Y) (y : Y) (x : X) (xs : List X) → Among x xs → Among y (f x) → Among y (flat_map f xs)
 among-given f y x [] a b = absurd a
 among-given f y x (z ∷ xs) (inl e) b = among-left y (f z) (flat_map f xs) (subst (λ (x : _). Among y (f x)) (sym e) b)
 among-given f y x (z ∷ xs) (inr a) b = among-right y (f z) (flat_map f xs) (among-given f y x xs a b)

@@ -18,3 +18,5 @@ pub mod StandingLaws
 pub mod TableLaws
 pub mod VariantLaws
 pub mod CallBounds
+pub mod CleanEntries
+pub mod CleanArray

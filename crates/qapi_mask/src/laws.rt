@@ -1,6 +1,6 @@
 //! What introspection tells.
 ghost use Rattle.std.specs.Prelude.{◌≡◌, ◌↔◌, ℕ, map, codes, true};
-ghost use Rattle.qm_json.specs.declared.value.Json.{Json};
+ghost use Rattle.qm_json.specs.{Cleanness.IsClean, declared.value.Json.Json};
 ghost use Rattle.qapi_types.specs.declared.parts.{
   ArgType.TheVariants.AnyObject,
   CommandDef.CommandDef,
@@ -11,7 +11,7 @@ ghost use Rattle.qm_admit.specs.Fitting.{Among, Fits};
 ghost use Rattle.qapi_mask.specs.Bounds.{IsInBounds};
 ghost use Rattle.qapi_mask.specs.Introspection.{introspection_of};
 ghost use Rattle.qapi_mask.specs.Naming.{argument_type, is_listed, mask_of};
-ghost use Rattle.qapi_types.specs.Prelude.{HasPrelude};
+ghost use Rattle.qapi_types.specs.{Prelude.HasPrelude, Texts.HasTexts};
 ghost use Rattle.qapi_mask.specs.Reading.{Reads, commands_in, entry_in};
 ghost use Rattle.qapi_mask.specs.Told.{command_told};
 
@@ -31,4 +31,9 @@ pub fn introspection_tells_the_commands()
         → (is_listed p (argument_type p.kinds c.arg) ≡ true) × (is_listed p c.ret ≡ true) }
     ensures any { (p : Parts) → IsGood p → HasPrelude p → (c : CommandDef) → Among c p.commands → c.arg ≡ AnyObject
         → (mask_of p (argument_type p.kinds c.arg) ≡ codes "any") × ((v : Json) → Reads (entry_in (introspection_of p)) (codes "any") v) }
+{}
+
+/// A text can spell the array (RFC 8259), where the schema's names are UTF-8.
+pub fn introspection_is_clean()
+    ensures { (p : Parts) → IsGood p → HasPrelude p → HasTexts p → IsClean (introspection_of p) }
 {}

@@ -4,4 +4,5 @@ pub mod Goodness
 pub mod Lookups
 pub mod Prelude
 pub mod Sets
+pub mod Texts
 pub mod Types
