@@ -17,3 +17,5 @@ pub mod ApartLaws
 pub mod UnionLaws
 pub mod GoodLaws
 mod PreludeLaws
+pub mod NameTexts
+pub mod TextLaws

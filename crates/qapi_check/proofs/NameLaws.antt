@@ -49,6 +49,12 @@ rules-none before d h =
     let e : (fault MemberClash d (clash d) ≡ None) × (◌≡◌ {A = Option CheckFault} None None) = or-none _ _ c.1 in
     (fault-none Redefined d (redefined before d) c.0, fault-none MemberClash d (clash d) e.0)
 
+-- no name of a definition is bad
+pub bad-none : (before : List Definition) (d : Definition) → names_rules before d ≡ None → bad_name d ≡ None
+bad-none before d h =
+    let a : (fault BadName d (bad_name d) ≡ None) × (option_or (fault NoSuccessResponse d (without_response d)) (option_or (fault Redefined d (redefined before d)) (option_or (fault MemberClash d (clash d)) None)) ≡ None) = or-none _ _ h in
+    fault-none BadName d (bad_name d) a.0
+
 redefined-none : (before : List Definition) (d : Definition) → redefined before d ≡ None → (is_built_in d.name ≡ false) × (stands d.name (map (λ (x : Definition). x.name) before) ≡ false)
 redefined-none before d h = by_case (is_built_in d.name) refl h
   where

@@ -29,9 +29,9 @@ module _ (defs : List Definition) where
   empty-needed : (at : ℕ) (d : Definition) → In (at, d) (enumerate_from 0 defs) → lacks_data d.sort d ≡ true → list_any (same implicit.Empty) (implicit_types_of defs) ≡ true
   empty-needed at d i l =
       gathered implicit.Empty [] (flat_map (implied_by (types_of defs)) (enumerate_from 0 defs))
-        (in-flat_map (implied_by (types_of defs)) (at, d) implicit.Empty (enumerate_from 0 defs) i
-          (in-right implicit.Empty (flat_map (implied_by_part (types_of defs) d.sort at) d.parts) (cond (lacks_data d.sort d) (implicit.Empty ∷ []) [])
-            (subst (λ b. In implicit.Empty (cond b (implicit.Empty ∷ []) [])) (sym l) (inl refl))))
+      (in-flat_map (implied_by (types_of defs)) (at, d) implicit.Empty (enumerate_from 0 defs) i
+      (in-right implicit.Empty (flat_map (implied_by_part (types_of defs) d.sort at) d.parts) (cond (lacks_data d.sort d) (implicit.Empty ∷ []) [])
+      (subst (λ b. In implicit.Empty (cond b (implicit.Empty ∷ []) [])) (sym l) (inl refl))))
 
   empty-kind : (at : ℕ) (d : Definition) → In (at, d) (enumerate_from 0 defs) → lacks_data d.sort d ≡ true → kind_of (kinds_of numbers defs) (number_of_implicit numbers implicit.Empty) ≡ plain_object []
   empty-kind at d i l = kind-needed defs implicit.Empty (empty-needed at d i l)

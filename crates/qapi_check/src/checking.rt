@@ -2,7 +2,7 @@ ghost use Rattle.std.specs.Prelude.{◌≡◌, None, IfOk};
 ghost use Rattle.std.specs.Option.{option_map};
 ghost use Rattle.qapi_rules.specs.Blames.{told};
 ghost use Rattle.qapi_check.specs.Checking.{IsChecked, checked as checked_of, checked_sources as sources_checked, memory_fault, table_unless};
-ghost use Rattle.qapi_types.specs.Prelude.{HasPrelude};
+ghost use Rattle.qapi_types.specs.{Prelude.HasPrelude, Texts.HasTexts};
 ghost use Rattle.qapi_check.specs.Beginning.{BeginsWithPrelude};
 ghost use Rattle.qapi_check.specs.Lawful.{AreLawful};
 ghost use Rattle.qapi_check.specs.Passes as Steps;
@@ -148,6 +148,7 @@ pub fn check_sources(
     ensures value { IsChecked result → result ≡ sources_checked defines.now sources.now }
     ensures prelude { IfOk result BeginsWithPrelude }
     ensures has_prelude { IfOk result HasPrelude }
+    ensures texts { IfOk result HasTexts }
 {
     match checked_sources(alloc, sources, defines) {
         Ok(answer) => answer,
@@ -167,6 +168,7 @@ pub fn check(alloc: Global, sources: &SourceList, defines: &Names) -> Result<Sch
     ensures value { IsChecked result → result ≡ sources_checked defines.now sources.now }
     ensures prelude { IfOk result BeginsWithPrelude }
     ensures has_prelude { IfOk result HasPrelude }
+    ensures texts { IfOk result HasTexts }
 {
     check_sources(alloc, sources.as_slice(), defines.as_slice())
 }

@@ -109,16 +109,16 @@ module _ (p : Parts) (good : IsSound p) (texts : HasTexts p) where
       is_clean (json.Obj (told name arg ret oob ++ features_members features)) ≡ true
   clean-command name arg ret oob features n a r h = clean-with (told name arg ret oob) features (distinct name arg ret oob) (distinct-marked name arg ret oob)
       (more (clean-text (codes "name") name refl n)
-        (more (clean-text (codes "meta-type") (codes "command") refl (text (codes "command") refl))
-          (more (clean-text (codes "arg-type") arg refl a)
-            (more (clean-text (codes "ret-type") ret refl r) (clean-oob oob))))) h
+      (more (clean-text (codes "meta-type") (codes "command") refl (text (codes "command") refl))
+      (more (clean-text (codes "arg-type") arg refl a)
+      (more (clean-text (codes "ret-type") ret refl r) (clean-oob oob))))) h
 
   clean-event : (name arg : List ℕ) (features : List (List ℕ)) → IsText name → IsText arg → Each IsText features →
       is_clean (json.Obj ((with_text (codes "name") name ∷ with_text (codes "meta-type") (codes "event") ∷ with_text (codes "arg-type") arg ∷ []) ++ features_members features)) ≡ true
   clean-event name arg features n a h = clean-with (with_text (codes "name") name ∷ with_text (codes "meta-type") (codes "event") ∷ with_text (codes "arg-type") arg ∷ []) features refl refl
       (more (clean-text (codes "name") name refl n)
-        (more (clean-text (codes "meta-type") (codes "event") refl (text (codes "event") refl))
-          (more (clean-text (codes "arg-type") arg refl a) none))) h
+      (more (clean-text (codes "meta-type") (codes "event") refl (text (codes "event") refl))
+      (more (clean-text (codes "arg-type") arg refl a) none))) h
 
   clean-call : (call : Call) → IsOf p call → is_clean (call_json p call) ≡ true
   clean-call (Command c) a =
@@ -159,9 +159,11 @@ module _ (p : Parts) (good : IsSound p) (texts : HasTexts p) where
       (each-map IsValueText value_entry values (λ v a. (within v v.name a (inl refl), λ f b. within v f a (inr b))), λ f b. h f (among-right f (flat_map named values) features b))
   entry-text (kinds.Object def) h =
       let named : MemberDef → List (List ℕ) = λ (m : MemberDef). m.name ∷ m.features in
-      let within : (m : MemberDef) (n : List ℕ) → Among m def.members → Among n (named m) → IsText n = λ m n a b. h n (among-left n (flat_map named def.members) def.features (among-given named n m def.members a b)) in
-      (each-map IsMemberText (member_entry (mask_of p)) def.members (λ m a. (within m m.name a (inl refl), mask-text m.type_id, λ f b. within m f a (inr b))),
-      tag-texts def (tag_member (kinds.Object def)) refl (λ m a. within m m.name a (inl refl)), λ f b. h f (among-right f (flat_map named def.members) def.features b))
+      let within : (m : MemberDef) (n : List ℕ) → Among m def.members → Among n (named m) → IsText n = λ m n a b. h n (among-left n (flat_map named def.members) def.features (among-given named n m def.members a b)) in (
+        each-map IsMemberText (member_entry (mask_of p)) def.members (λ m a. (within m m.name a (inl refl), mask-text m.type_id, λ f b. within m f a (inr b))),
+        tag-texts def (tag_member (kinds.Object def)) refl (λ m a. within m m.name a (inl refl)),
+        λ f b. h f (among-right f (flat_map named def.members) def.features b),
+      )
 
   clean-type : (t : ℕ) → is_clean (type_json p t) ≡ true
   clean-type t = clean-entry (mask_of p t) (entry_at p t) (mask-text t) (entry-text (kind_of p.kinds t) (kind-texts t))

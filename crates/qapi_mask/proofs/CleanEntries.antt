@@ -129,7 +129,7 @@ clean-member name type false features n t h =
 clean-member name type true features n t h =
     clean-with (with_text (codes "name") name ∷ with_text (codes "type") type ∷ with_value (codes "default") json.Null ∷ []) features refl refl
     (more (clean-text (codes "name") name refl n) (more (clean-text (codes "type") type refl t)
-      (more (clean-value (codes "default") json.Null refl is_clean-Null) none))) h
+    (more (clean-value (codes "default") json.Null refl is_clean-Null) none))) h
 
 clean-enum-value : (v : ValueEntry) → IsValueText v → is_clean (value_json v) ≡ true
 clean-enum-value v h = clean-with (with_text (codes "name") v.name ∷ []) v.features refl refl (more (clean-text (codes "name") v.name refl h.0) none) h.1
@@ -166,8 +166,8 @@ clean-entry name (Enum values features) n h =
     let names : Member = with_value (codes "values") (json.Arr (map (λ (v : ValueEntry). json.Str v.name) values)) in
     clean-with (begun name (codes "enum") (members ∷ names ∷ [])) features refl refl
     (clean-begun name (codes "enum") _ n refl
-      (more (clean-array (codes "members") value_json values refl (λ v a. clean-enum-value v (h.0 v a)))
-        (more (clean-array (codes "values") (λ (v : ValueEntry). json.Str v.name) values refl (λ v a. clean-string v.name (h.0 v a).0)) none))) h.1
+    (more (clean-array (codes "members") value_json values refl (λ v a. clean-enum-value v (h.0 v a)))
+    (more (clean-array (codes "values") (λ (v : ValueEntry). json.Str v.name) values refl (λ v a. clean-string v.name (h.0 v a).0)) none))) h.1
 clean-entry name (Alternate types features) n h =
     let members : Member = with_value (codes "members") (json.Arr (map alternative_json types)) in
     clean-with (begun name (codes "alternate") (members ∷ [])) features refl refl
@@ -179,6 +179,6 @@ clean-entry name (Object members (Some tag) features) n h =
     let variants : Member = with_value (codes "variants") (json.Arr (map variant_json tag.variants)) in
     clean-with (begun name (codes "object") (members_of members ∷ with_text (codes "tag") tag.name ∷ variants ∷ [])) features refl refl
     (clean-begun name (codes "object") _ n refl
-      (more (clean-members members h.0)
-        (more (clean-text (codes "tag") tag.name refl h.1.0)
-          (more (clean-array (codes "variants") variant_json tag.variants refl (λ v a. clean-variant v (h.1.1 v a))) none)))) h.2
+    (more (clean-members members h.0)
+    (more (clean-text (codes "tag") tag.name refl h.1.0)
+    (more (clean-array (codes "variants") variant_json tag.variants refl (λ v a. clean-variant v (h.1.1 v a))) none)))) h.2

@@ -1,4 +1,4 @@
-use Rattle.qapi_check.proofs.PreludeLaws.{table_begins, table_has_prelude}
+use Rattle.qapi_check.proofs.{PreludeLaws.table_begins, PreludeLaws.table_has_prelude, TextLaws.table_has_texts}
 use Rattle.qapi_check.proofs.checking.check_sources.Goals as goal
 
 pub returns-in-Ok-clause-prelude : goal.returns-in-Ok-clause-prelude
@@ -6,3 +6,6 @@ returns-in-Ok-clause-prelude c = table_begins c.args.defines.now c.args.sources.
 
 pub returns-in-Ok-clause-has_prelude : goal.returns-in-Ok-clause-has_prelude
 returns-in-Ok-clause-has_prelude c = table_has_prelude c.args.defines.now c.args.sources.now c.in-Ok.answer c.in-Ok.ensures
+
+pub returns-in-Ok-clause-texts : goal.returns-in-Ok-clause-texts
+returns-in-Ok-clause-texts c = table_has_texts c.args.defines.now c.args.sources.now c.in-Ok.answer c.in-Ok.ensures
