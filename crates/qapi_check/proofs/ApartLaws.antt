@@ -1,8 +1,8 @@
 -- Types of definitions without a fault are on no cycle of branches, and no name stands twice along them.
-use Rattle.std.proofs.Common.{◌≡◌, ◌<◌, ◌≤◌, ◌+◌, ◌-◌, ◌&&◌, ◌||◌, ℕ, zero, suc, Bool, true, false, cond, nat_eq, List, [], ◌∷◌, ◌++◌, length, map, get_or, All, Option, Some, None, is_some, option_to_list, slice_get, option_and_then, unwrap_or, refl, sym, ap, ◌∙◌, subst, inl, inr, arith, append_assoc}
+use Rattle.std.proofs.Common.{◌≡◌, ◌<◌, ◌≤◌, ◌+◌, ◌-◌, ℕ, zero, suc, Bool, true, false, cond, if◌then◌else◌, List, [], ◌∷◌, ◌++◌, length, map, get_or, All, Option, Some, None, is_some, option_to_list, slice_get, option_and_then, unwrap_or, refl, sym, ap, ◌∙◌, subst, inl, inr, arith, append_assoc}
 use Rattle.std.specs.{List.AllByRecursion}
 use Rattle.std.proofs.Math.ListN.{get_or-map}
-use Rattle.std.proofs.lemmas.{Bool.cases_lt, Bool.Decides.Decides-eqb}
+use Rattle.std.proofs.lemmas.{Bool.cases_lt}
 use Rattle.std.proofs.lemmas.List.{get_or_past, length-append, length-map, Elements.filter_agree}
 use Rattle.qapi_types.specs.declared.kind.{Branch.Branch, Kind.Kind, MemberDef.MemberDef, ValueDef.ValueDef}
 use Rattle.qapi_types.specs.declared.kind.Kind.TheVariants as kinds
@@ -12,7 +12,7 @@ use Rattle.qapi_types.specs.{Goodness.choices_of, Goodness.HasApartValues, Types
 use Rattle.qapi_types.proofs.{ChainLaws.row-holds, ChoiceLaws.again-none, FaultLaws.names-at}
 use Rattle.qapi_define.specs.declared.definition.{Definition.Definition, EnumValue.EnumValue, Member.Member, Sort.Sort, Variant.Variant}
 use Rattle.qapi_define.specs.declared.definition.Sort.TheVariants as sorts
-use Rattle.qapi_define.specs.Saying.{discriminator_of, first_some, members_of, values_of, variants_of}
+use Rattle.qapi_define.specs.Saying.{discriminator_of, first_some, has_variants, members_of, sort_has_variants, values_of, variants_in, variants_of}
 use Rattle.qapi_rules.specs.declared.{fault.CheckRule.TheVariants.MemberClash}
 use Rattle.qapi_rules.specs.{Blames.over, Cycles.cycles_pass, Cycles.branches_of, Meanings.is_alternate_sort, Meanings.is_union_sort, NamesRules.names_pass, References.references_pass}
 use Rattle.qapi_number.specs.declared.{implicit.ImplicitType.ImplicitType, numbering.Numbering.Numbering}
@@ -20,7 +20,7 @@ use Rattle.qapi_number.specs.declared.implicit.ImplicitType.TheVariants as impli
 use Rattle.qapi_number.specs.Kinds.{all_members, base_number, branch_def, builtin_kinds, implicit_kind, kind_defined, kinds_of, member_def, member_defs, members_at, qtype_names, tag_names, tag_of, value_defs}
 use Rattle.qapi_number.specs.{Implicit.implicit_types_of, Numbering.number_of_implicit, Numbering.numbering_of, Numbering.type_number, TypeNames.is_type_sort, TypeNames.number_of_name, TypeNames.types_of}
 use Rattle.qapi_check.specs.Clashes.{is_type_sort as is_checked_sort}
-use Rattle.qapi_check.specs.{Clashes.again_in, Clashes.clash_of, Clashes.clashes_pass, Clashes.clashes_rule, Clashes.defines_type, Clashes.type_definitions, Walking.LeadsTo, Lawful.has_lawful_branches, Lawful.is_none}
+use Rattle.qapi_check.specs.{Clashes.again_in, Clashes.clash_of, Clashes.clashes_pass, Clashes.clashes_rule, Clashes.defines_type, Clashes.type_definitions, Walking.LeadsTo}
 use Rattle.qapi_check.proofs.ListLaws.{In, at-in, by-recursion, in-get_or, in-map, in-right, map-in, or-none, past-none, first_some-none}
 use Rattle.qapi_check.proofs.{NamedLaws.IsOwn, NamedLaws.own-at, NameLaws.fault-none, NameLaws.members-apart, NameLaws.no-names, NameLaws.values-apart}
 use Rattle.qapi_check.proofs.NumberLaws.{kind-builtin, kind-defined, kind-implicit, kinds-all, kinds-long}
@@ -109,24 +109,21 @@ all-values defs names = kinds-all HasApartValues (numbering_of defs) defs
 
 -- ---- cycles
 
-some-variant : (vs : List Variant) (v : Variant) → In v vs → is_none vs ≡ false
-some-variant [] v h = absurd h
-some-variant (w ∷ vs) v h = by_case (nat_eq (suc (length vs)) 0) refl
-  where
-    by_case : (b : Bool) → nat_eq (suc (length vs)) 0 ≡ b → b ≡ false
-    by_case true e = (let k : suc (length vs) ≡ 0 = (Decides-eqb (suc (length vs)) 0).0 e in absurd (omega (arith, k)))
-    by_case false e = refl
-
-union-of : (a e u s : Bool) → a ≡ false → e ≡ false → (a || e || (u && s)) ≡ true → (u ≡ true) × (s ≡ true)
-union-of true e u s p q h = cc
-union-of false true u s p q h = cc
-union-of false false true true p q h = (refl, refl)
-union-of false false true false p q h = cc
-union-of false false false s p q h = cc
-
 -- what has branches and is no alternate is a union with a discriminator
-pub lawful-union : (d : Definition) (v : Variant) → has_lawful_branches d ≡ true → is_alternate_sort d.sort ≡ false → In v (variants_of d) → (is_union_sort d.sort ≡ true) × (is_some (discriminator_of d) ≡ true)
-lawful-union d v h a i = union-of (is_alternate_sort d.sort) (is_none (variants_of d)) (is_union_sort d.sort) (is_some (discriminator_of d)) a (some-variant (variants_of d) v i) h
+tagged-union : (s : Sort) (tagged : Bool) → sort_has_variants s tagged ≡ true → is_alternate_sort s ≡ false → (is_union_sort s ≡ true) × (tagged ≡ true)
+tagged-union sorts.Alternate tagged h a = cc
+tagged-union sorts.Union tagged h a = (refl, h)
+tagged-union sorts.Enum tagged h a = cc
+tagged-union sorts.Struct tagged h a = cc
+tagged-union sorts.Command tagged h a = cc
+tagged-union sorts.Event tagged h a = cc
+
+pub branches-of-union : (d : Definition) (v : Variant) → is_alternate_sort d.sort ≡ false → In v (variants_of d) → (is_union_sort d.sort ≡ true) × (is_some (discriminator_of d) ≡ true)
+branches-of-union d v a i = by_case (has_variants d) refl i
+  where
+    by_case : (b : Bool) → has_variants d ≡ b → In v (if b then unwrap_or (first_some variants_in d.parts) [] else []) → (is_union_sort d.sort ≡ true) × (is_some (discriminator_of d) ≡ true)
+    by_case true e j = tagged-union d.sort (is_some (discriminator_of d)) e a
+    by_case false e j = absurd j
 
 -- a branch by its number
 record IsBranch (n : Numbering) (d : Definition) (b : ℕ) : Type 0 where
@@ -152,12 +149,12 @@ branch-in n sorts.Event t d b e i = object-branch n d (tag_names n.types (member
 kinds-row : (table : List Kind) (a : ℕ) → row_of (map branch_types table) a ≡ branch_types (kind_of table a)
 kinds-row table a = get_or-map branch_types table a kinds.Null
 
-module _ (defs : List Definition) (names : names_pass defs ≡ None) (references : references_pass defs ≡ None) (lawful : (d : Definition) → In d defs → has_lawful_branches d ≡ true) where
+module _ (defs : List Definition) (names : names_pass defs ≡ None) (references : references_pass defs ≡ None) where
   branch-numbered : (a b : ℕ) (d : Definition) → slice_get (types_of defs) a ≡ Some d → In b (branch_types (kind_of (kinds_of (numbering_of defs) defs) a)) → In b (numbered_references (types_of defs) d)
   branch-numbered a b d g i =
       let w : IsOwn defs d.name d = own-at defs d a names g in
       let k : IsBranch (numbering_of defs) d b = branch-in (numbering_of defs) d.sort a d b refl (subst (λ k. In b (branch_types k)) (kind-defined (numbering_of defs) defs a d g) i) in
-      let u : (is_union_sort d.sort ≡ true) × (is_some (discriminator_of d) ≡ true) = lawful-union d k.variant (lawful d w.among) k.plain k.among in
+      let u : (is_union_sort d.sort ≡ true) × (is_some (discriminator_of d) ≡ true) = branches-of-union d k.variant k.plain k.among in
       let m = branch-may defs d k.variant (referring defs d references w.among) k.plain k.among in
       let j : In k.variant (branches_of d) = subst (λ c. In k.variant (cond c (variants_of d) [])) (sym u.0) k.among in
       let q : b ≡ number_of_name (types_of defs) k.variant.of.name = k.number ∙ ap (λ c. cond c (number_of_implicit (numbering_of defs) (implicit.Array (number_of_name (types_of defs) k.variant.of.name))) (number_of_name (types_of defs) k.variant.of.name)) m.0 in

@@ -1,12 +1,12 @@
 -- What definitions without a fault of names give: names that stand once.
-use Rattle.std.proofs.Common.{◌≡◌, ℕ, Bool, true, false, cond, List, [], ◌∷◌, ◌++◌, map, Option, Some, None, unwrap_or, refl, sym, ap, subst, arith, append_assoc, append-nil}
+use Rattle.std.proofs.Common.{◌≡◌, ℕ, Bool, true, false, cond, if◌then◌else◌, List, [], ◌∷◌, ◌++◌, map, Option, Some, None, unwrap_or, refl, sym, ap, subst, arith, append_assoc, append-nil}
 use Rattle.std.specs.Option.{option_or}
 use Rattle.std.proofs.lemmas.{List.map-append}
 use Rattle.qapi_types.specs.Choices.{AreApart, stands}
 use Rattle.qapi_types.proofs.ChoiceLaws.{again-none}
 use Rattle.qapi_define.specs.declared.definition.{Definition.Definition, EnumValue.EnumValue, Member.Member, Part.Part, Variant.Variant}
 use Rattle.qapi_define.specs.declared.definition.Part.TheVariants as part
-use Rattle.qapi_define.specs.Saying.{first_some, members_in, members_of, values_in, values_of, variants_in, variants_of}
+use Rattle.qapi_define.specs.Saying.{first_some, has_variants, members_in, members_of, values_in, values_of, variants_in, variants_of}
 use Rattle.qapi_rules.specs.declared.fault.{CheckFault.CheckFault, CheckRule.CheckRule}
 use Rattle.qapi_rules.specs.declared.fault.CheckRule.TheVariants.{BadName, MemberClash, NoSuccessResponse, Redefined}
 use Rattle.qapi_rules.specs.{BadNames.bad_name, BadNames.in_order, Blames.fault, Blames.over, BuiltIns.is_built_in, Clashes.clash, Clashes.clash_in, Clashes.clash_of_member, Clashes.clash_of_value, Clashes.clash_of_variant, Clashes.repeated, Clashes.taken}
@@ -110,11 +110,15 @@ is-variants (part.Features features) vs h = cc
 
 -- the branches or alternatives are none, or one of the parts
 pub variants-part : (d : Definition) (P : List Variant → Type 0) → P [] → ((vs : List Variant) → In (part.Variants vs) d.parts → P vs) → P (variants_of d)
-variants-part d P none some = by_case (first_some variants_in d.parts) refl
+variants-part d P none some = by_sort (has_variants d)
   where
     by_case : (o : Option (List Variant)) → first_some variants_in d.parts ≡ o → P (unwrap_or o [])
     by_case None e = none
     by_case (Some vs) e = let r : (p : Part) × In p d.parts × (variants_in p ≡ Some vs) = first_some-some variants_in vs d.parts e in some vs (subst (λ p. In p d.parts) (is-variants r.0 vs r.2) r.1)
+
+    by_sort : (b : Bool) → P (if b then unwrap_or (first_some variants_in d.parts) [] else [])
+    by_sort true = by_case (first_some variants_in d.parts) refl
+    by_sort false = none
 
 own-first : (b : Bool) (own inside : Option (List ℕ)) → in_order b own inside ≡ None → own ≡ None
 own-first true own inside h = (or-none inside own h).1

@@ -24,14 +24,13 @@ use Rattle.qapi_number.specs.declared.implicit.ImplicitType.TheVariants as impli
 use Rattle.qapi_number.specs.Kinds.{all_members, branch_def, builtin_kinds, implicit_kind, kind_defined, kinds_of, member_def, member_defs, object_with, qtype_names, qtype_number, tag_names, tag_of, value_names_at}
 use Rattle.qapi_number.specs.{Numbering.number_of_implicit, Numbering.numbering_of, Numbering.type_number}
 use Rattle.qapi_number.specs.TypeNames.{number_of_name, types_of}
-use Rattle.qapi_check.specs.Lawful.{has_lawful_branches}
 use Rattle.qapi_check.proofs.ListLaws.{In, all-in, any-in, found, in-at, in-get_or, first_some-none, first_some-some, weaker-recursion}
 use Rattle.qapi_check.proofs.NameLaws.{taken-none, variants-part, part-apart}
 use Rattle.qapi_check.proofs.NamedLaws.{IsOwn, Named, own, given, any-flip, fits, kind-given, kind-own, name-at, named-type, number-of, object-same, own-at, place-once, same-name}
 use Rattle.qapi_check.proofs.NumberLaws.{kind-defined, kinds-all, kinds-long}
 use Rattle.qapi_check.proofs.ReferenceLaws.{IsReferring, no-pairs, pairs-over, referring, unless-none, variant-type}
 use Rattle.qapi_check.proofs.GraphLaws.{base-members, both, branch-may, negated}
-use Rattle.qapi_check.proofs.ApartLaws.{lawful-union, names-of-values}
+use Rattle.qapi_check.proofs.ApartLaws.{branches-of-union, names-of-values}
 
 -- the member that chooses among the branches
 record IsTag (defs : List Definition) (d : Definition) (t : ℕ) (name : List ℕ) (m : Member) : Type 0 where
@@ -168,7 +167,7 @@ value-within names name s =
     let e : unwrap_or (place_of names name) 0 ≡ i.0 = ap (λ (o : Option ℕ). unwrap_or o 0) i.1 in
     omega (arith, l, e)
 
-module _ (defs : List Definition) (names : names_pass defs ≡ None) (references : references_pass defs ≡ None) (cycles : cycles_pass defs ≡ None) (lawful : (d : Definition) → In d defs → has_lawful_branches d ≡ true) where
+module _ (defs : List Definition) (names : names_pass defs ≡ None) (references : references_pass defs ≡ None) (cycles : cycles_pass defs ≡ None) where
   -- the discriminator is a member
   tag-member : (d : Definition) (t : ℕ) (name : List ℕ) → slice_get (types_of defs) t ≡ Some d → IsReferring defs d → discriminator_of d ≡ Some name → (m : Member) × IsTag defs d t name m
   tag-member d t name g r e = by_enum (enum_of_branches defs d name) refl
@@ -242,10 +241,10 @@ without-tag table kind t b = (
   (subst (λ bs. All (λ (b : Branch). is_object (kind_of table b.type_id) ≡ true) bs) (sym b) (All-nil (λ (b : Branch). is_object (kind_of table b.type_id) ≡ true)), subst HaveOwnValues (sym b) (no-pairs (λ (b c : Branch). b.value ≡ c.value → ⊥))),
 )
 
-module _ (defs : List Definition) (names : names_pass defs ≡ None) (references : references_pass defs ≡ None) (cycles : cycles_pass defs ≡ None) (lawful : (d : Definition) → In d defs → has_lawful_branches d ≡ true) where
+module _ (defs : List Definition) (names : names_pass defs ≡ None) (references : references_pass defs ≡ None) (cycles : cycles_pass defs ≡ None) where
   -- a type without a discriminator has no branches
-  no-branches : (d : Definition) (v : Variant) → In d defs → discriminator_of d ≡ None → is_alternate_sort d.sort ≡ false → In v (variants_of d) → ⊥
-  no-branches d v i e a j = let u = lawful-union d v (lawful d i) a j in let k : is_some (discriminator_of d) ≡ false = ap is_some e in (let l = u.1 in cc)
+  no-branches : (d : Definition) (v : Variant) → discriminator_of d ≡ None → is_alternate_sort d.sort ≡ false → In v (variants_of d) → ⊥
+  no-branches d v e a j = let u = branches-of-union d v a j in let k : is_some (discriminator_of d) ≡ false = ap is_some e in (let l = u.1 in cc)
 
   valued : (d : Definition) (t : ℕ) → slice_get (types_of defs) t ≡ Some d → In d defs → IsReferring defs d → is_alternate_sort d.sort ≡ false → AreApart (map (λ (m : MemberDef). m.name) (members_by defs t)) → IsValued defs d t
   valued d t g i r a apart = by_name (discriminator_of d) refl
@@ -254,14 +253,14 @@ module _ (defs : List Definition) (names : names_pass defs ≡ None) (references
       by_name None e =
           let n : tag_of d (members_by defs t) ≡ None = ap (option_and_then (place_of (map (λ (m : MemberDef). m.name) (members_by defs t)))) e in
           record {
-            stand = λ v j. absurd (no-branches d v i e a j);
+            stand = λ v j. absurd (no-branches d v e a j);
             long = ap (λ (o : Option ℕ). length (values_at (all_kinds defs) (option_and_then (λ p. slice_get (members_by defs t) p) o))) n ∙ sym (ap (λ (o : Option ℕ). length (tag_names (types_of defs) (members_by defs t) o)) n);
           }
       by_name (Some name) e =
-          let m : (m : Member) × IsTag defs d t name m = tag-member defs names references cycles lawful d t name g r e in
-          let p : (p : ℕ) × IsPlaced (numbering_of defs) d t p m.0 = placed-tag defs names references cycles lawful d t name m.0 m.1 e apart in
-          let w : Named defs m.0.of.name = tag-type defs names references cycles lawful d t name m.0 m.1 in
-          let q : type_number (numbering_of defs) m.0.of ≡ number_of_name (types_of defs) m.0.of.name = plain-number defs names references cycles lawful m.0 m.1.plain in
+          let m : (m : Member) × IsTag defs d t name m = tag-member defs names references cycles d t name g r e in
+          let p : (p : ℕ) × IsPlaced (numbering_of defs) d t p m.0 = placed-tag defs names references cycles d t name m.0 m.1 e apart in
+          let w : Named defs m.0.of.name = tag-type defs names references cycles d t name m.0 m.1 in
+          let q : type_number (numbering_of defs) m.0.of ≡ number_of_name (types_of defs) m.0.of.name = plain-number defs names references cycles m.0 m.1.plain in
           let there : names_by defs d t ≡ value_names_at (types_of defs) (number_of_name (types_of defs) m.0.of.name) =
           ap (tag_names (types_of defs) (members_by defs t)) p.1.tag
           ∙ ap (λ (o : Option MemberDef). unwrap_or (option_map (λ (m : MemberDef). value_names_at (types_of defs) m.type_id) o) []) p.1.at
@@ -286,10 +285,10 @@ module _ (defs : List Definition) (names : names_pass defs ≡ None) (references
           let n : tag_of d (members_by defs t) ≡ None = ap (option_and_then (place_of (map (λ (m : MemberDef). m.name) (members_by defs t)))) e in
           subst (λ (o : Option ℕ). IfSome (option_and_then (λ p. slice_get (members_by defs t) p) o) (λ (m : MemberDef). (m.optional ≡ false) × (is_enum (kind_of (all_kinds defs) m.type_id) ≡ true))) (sym n) tt
       by_name (Some name) e =
-          let m : (m : Member) × IsTag defs d t name m = tag-member defs names references cycles lawful d t name g r e in
-          let p : (p : ℕ) × IsPlaced (numbering_of defs) d t p m.0 = placed-tag defs names references cycles lawful d t name m.0 m.1 e apart in
-          let w : Named defs m.0.of.name = tag-type defs names references cycles lawful d t name m.0 m.1 in
-          let q : type_number (numbering_of defs) m.0.of ≡ number_of_name (types_of defs) m.0.of.name = plain-number defs names references cycles lawful m.0 m.1.plain in
+          let m : (m : Member) × IsTag defs d t name m = tag-member defs names references cycles d t name g r e in
+          let p : (p : ℕ) × IsPlaced (numbering_of defs) d t p m.0 = placed-tag defs names references cycles d t name m.0 m.1 e apart in
+          let w : Named defs m.0.of.name = tag-type defs names references cycles d t name m.0 m.1 in
+          let q : type_number (numbering_of defs) m.0.of ≡ number_of_name (types_of defs) m.0.of.name = plain-number defs names references cycles m.0 m.1.plain in
           subst (λ (o : Option MemberDef). IfSome o (λ (m : MemberDef). (m.optional ≡ false) × (is_enum (kind_of (all_kinds defs) m.type_id) ≡ true))) (sym (ap (option_and_then (λ p. slice_get (members_by defs t) p)) p.1.tag ∙ p.1.at))
           (m.1.mandatory, ap (λ (k : ℕ). is_enum (kind_of (all_kinds defs) k)) q ∙ enum-same defs m.0.of.name w m.1.enum)
 

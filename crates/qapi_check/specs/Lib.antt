@@ -1,6 +1,5 @@
 pub mod Beginning
 pub mod Checking
 pub mod Clashes
-pub mod Lawful
 pub mod Passes
 pub mod Walking

@@ -4,18 +4,15 @@ ghost use Rattle.qapi_rules.specs.Blames.{told};
 ghost use Rattle.qapi_check.specs.Checking.{IsChecked, checked as checked_of, checked_sources as sources_checked, memory_fault, table_unless};
 ghost use Rattle.qapi_types.specs.{Prelude.HasPrelude, Texts.HasTexts};
 ghost use Rattle.qapi_check.specs.Beginning.{BeginsWithPrelude};
-ghost use Rattle.qapi_check.specs.Lawful.{AreLawful};
 ghost use Rattle.qapi_check.specs.Passes as Steps;
 
-use crate::counts::is_counted;
-use crate::lawful::are_lawful;
 use crate::passes::{
     all_definitions, clash_fault, cycle_fault, names_fault, numbered, references_fault,
 };
 use qapi_define::Definition;
 use qapi_load::{Source, SourceList};
 use qapi_rules::{Blame, CheckFault, CheckRule, DefinitionTable};
-use qapi_types::{Kind, Names, Schema};
+use qapi_types::{Kind, Names, Schema, is_counted};
 use qm_base::{NoMemory, Text};
 use std::alloc::Global;
 
@@ -62,7 +59,6 @@ fn first_clash(
     definitions: &[Definition],
 ) -> Result<Option<CheckFault>, NoMemory>
     requires types { kinds.now ≡ (Steps.numbered definitions.now).kinds }
-    requires lawful { AreLawful definitions.now }
     requires early { Steps.early_fault definitions.now ≡ None }
     ensures { IfOk result (λ fault. fault ≡ Steps.clash_fault definitions.now) }
 {
@@ -73,7 +69,6 @@ fn first_clash(
 /// The first clash, or else the sealed table. Want of memory is also answered where the table
 /// passes a count of its numbers.
 fn sealed(alloc: Global, definitions: &[Definition]) -> Result<Result<Schema, CheckFault>, NoMemory>
-    requires lawful { AreLawful definitions.now }
     requires early { Steps.early_fault definitions.now ≡ None }
     ensures { IfOk result (λ answer. answer
         ≡ table_unless (Steps.clash_fault definitions.now) definitions.now) }
@@ -89,20 +84,6 @@ fn sealed(alloc: Global, definitions: &[Definition]) -> Result<Result<Schema, Ch
     Ok(Ok(schema))
 }
 
-/// The same, where want of memory is also answered of definitions that are not written as a schema
-/// is.
-fn tabled(alloc: Global, definitions: &[Definition]) -> Result<Result<Schema, CheckFault>, NoMemory>
-    requires { Steps.early_fault definitions.now ≡ None }
-    ensures { IfOk result (λ answer. answer
-        ≡ table_unless (Steps.clash_fault definitions.now) definitions.now) }
-{
-    if are_lawful(definitions) {
-        sealed(alloc, definitions)
-    } else {
-        Err(NoMemory)
-    }
-}
-
 /// The first fault of definitions, or their sealed table.
 fn checked(
     alloc: Global,
@@ -112,7 +93,7 @@ fn checked(
 {
     match first_early(alloc, definitions)? {
         Some(fault) => Ok(Err(fault)),
-        None => tabled(alloc, definitions),
+        None => sealed(alloc, definitions),
     }
 }
 
@@ -161,8 +142,8 @@ pub fn check_sources(
 /// generation guide, "Schema syntax", "Configuring the schema"). The fault is the first, pass by
 /// pass: of names, of references, of cycles, and of names that clash along branches.
 ///
-/// - `Memory`: no memory was left, or the table passes a count of its numbers, or the expressions
-///   are not of the shapes that a schema's have; the line is 0, and file and name are empty.
+/// - `Memory`: no memory was left, or the table passes a count of its numbers; the line is 0, and
+///   file and name are empty.
 /// - Each other rule: the definition at this line of this file breaks it.
 pub fn check(alloc: Global, sources: &SourceList, defines: &Names) -> Result<Schema, CheckFault>
     ensures value { IsChecked result → result ≡ sources_checked defines.now sources.now }

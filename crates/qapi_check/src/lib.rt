@@ -5,8 +5,6 @@
 pub mod checking;
 pub mod choices;
 pub mod clashes;
-mod counts;
-mod lawful;
 pub mod laws;
 pub mod loading;
 mod passes;

@@ -1,7 +1,6 @@
 ghost use Rattle.std.specs.Prelude.{◌≡◌, None, IfOk};
 ghost use Rattle.std.specs.Option.{option_map};
 ghost use Rattle.qapi_rules.specs.Blames.{told};
-ghost use Rattle.qapi_check.specs.Lawful.{AreLawful};
 ghost use Rattle.qapi_check.specs.Passes as Steps;
 
 use crate::clashes::clashes_pass;
@@ -60,7 +59,6 @@ pub fn clash_fault<'a>(
     definitions: &'a [Definition],
 ) -> Result<Option<Blame<'a>>, NoMemory>
     requires types { kinds.now ≡ (Steps.numbered definitions.now).kinds }
-    requires lawful { AreLawful definitions.now }
     requires early { Steps.early_fault definitions.now ≡ None }
     ensures { IfOk result (λ blame. option_map told blame ≡ Steps.clash_fault definitions.now) }
 {

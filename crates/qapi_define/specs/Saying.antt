@@ -1,8 +1,9 @@
 -- What a definition says, part by part (QAPI code generation guide, "Schema syntax").
-use Rattle.std.specs.Prelude.{ℕ, List, [], ◌∷◌, Option, Some, None, unwrap_or}
-use Rattle.std.specs.Option.{option_or}
-use Rattle.qapi_define.specs.declared.definition.{Definition.Definition, EnumValue.EnumValue, Member.Member, Part.Part, TypeName.TypeName, Variant.Variant}
+use Rattle.std.specs.Prelude.{ℕ, Bool, true, false, if◌then◌else◌, List, [], ◌∷◌, Option, Some, None, unwrap_or}
+use Rattle.std.specs.Option.{is_some, option_or}
+use Rattle.qapi_define.specs.declared.definition.{Definition.Definition, EnumValue.EnumValue, Member.Member, Part.Part, Sort.Sort, TypeName.TypeName, Variant.Variant}
 use Rattle.qapi_define.specs.declared.definition.Part.TheVariants as part
+use Rattle.qapi_define.specs.declared.definition.Sort.TheVariants as sorts
 
 -- the first answer over things in order
 abbrev pub first_some : {A B : Type 0} → (A → Option B) → List A → Option B
@@ -69,9 +70,19 @@ members_of d = first_some members_in d.parts
 abbrev pub data_of : Definition → Option (List ℕ)
 data_of d = first_some data_in d.parts
 
--- the branches of a union, or the alternatives of an alternate
+-- an alternate has alternatives, a union with a discriminator has branches, and nothing else has either
+abbrev pub sort_has_variants : Sort → Bool → Bool
+sort_has_variants sorts.Alternate has_discriminator = true
+sort_has_variants sorts.Union has_discriminator = has_discriminator
+sort_has_variants sort has_discriminator = false
+
+-- the same of a definition
+abbrev pub has_variants : Definition → Bool
+has_variants d = sort_has_variants d.sort (is_some (discriminator_of d))
+
+-- the branches of a union with a discriminator, or the alternatives of an alternate; nothing else has any
 abbrev pub variants_of : Definition → List Variant
-variants_of d = unwrap_or (first_some variants_in d.parts) []
+variants_of d = if has_variants d then unwrap_or (first_some variants_in d.parts) [] else []
 
 -- what a command returns
 abbrev pub returns_of : Definition → Option TypeName

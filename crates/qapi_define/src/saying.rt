@@ -1,8 +1,8 @@
 ghost use Rattle.std.specs.Prelude.{◌≡◌};
 ghost use Rattle.std.specs.Option.{option_copied, option_map};
-ghost use Rattle.qapi_define.specs.Saying.{values_of, base_of, base_members_of, discriminator_of, members_of, data_of, variants_of, returns_of, features_of};
+ghost use Rattle.qapi_define.specs.Saying.{values_of, base_of, base_members_of, discriminator_of, members_of, data_of, has_variants, variants_of, returns_of, features_of};
 
-use crate::definition::{Definition, EnumValue, Member, Part, TypeName, Variant};
+use crate::definition::{Definition, EnumValue, Member, Part, Sort, TypeName, Variant};
 use qm_base::Text;
 
 impl Definition {
@@ -78,10 +78,25 @@ impl Definition {
         None
     }
 
-    /// The branches of a union, or the alternatives of an alternate.
+    /// Whether it is an alternate, or a union with a discriminator.
+    fn has_variants(&self) -> bool
+        ensures { result ≡ has_variants self.now }
+    {
+        match self.sort {
+            Sort::Alternate => true,
+            Sort::Union => self.discriminator().is_some(),
+            _ => false,
+        }
+    }
+
+    /// The branches of a union with a discriminator, or the alternatives of an alternate; nothing
+    /// else has any.
     pub fn variants(&self) -> &[Variant]
         ensures { result.now ≡ variants_of self.now }
     {
+        if !self.has_variants() {
+            return &[];
+        }
         for part in self.parts.as_slice() {
             if let Part::Variants(variants) = part {
                 return variants.as_slice();

@@ -25,4 +25,5 @@ pub use kind::{
 };
 pub use names::{NameSet, distinct_names};
 pub use parts::{ArgType, CommandDef, CommandList, EventDef, EventList, Parts};
+pub use ranges::is_counted;
 pub use schema::Schema;

@@ -22,7 +22,8 @@ fn are_short(kinds: &[Kind]) -> bool
     kinds.iter().all(|kind| is_short(kind))
 }
 
-/// Whether the counts of the parts are small enough.
+/// Whether the counts of the parts are small enough: fewer than 2^32 commands and events together,
+/// types, and members or values in one type.
 pub fn is_counted(parts: &Parts) -> bool
     ensures { IsTrue result ↔ IsCounted parts.now }
 {
