@@ -7,15 +7,21 @@ use Rattle.qm_base.proofs.Prefixes.{empty_prefix}
 use Rattle.qapi_load.specs.Files.{NamedText, text_of}
 use Rattle.qapi_types.specs.declared.parts.Parts.{Parts}
 use Rattle.qm_core.specs.Legal.{IsLegal, past_of}
+use Rattle.qm_core.specs.Transcript.{taken_of, transcript_of}
+use Rattle.qm_core.specs.declared.entries.Entry.{Entry}
 use Rattle.qm_core.proofs.Transcripts.{taken_first}
 use Rattle.qm_script.specs.{Endings.end_of, Endings.stop_end_of, declared.endings.Refused.Refused, declared.endings.Stop.Stop}
 use Rattle.qm_script.specs.declared.endings.Stop.TheVariants.{BadLine, Step, SessionsFull, JournalFull}
 use Rattle.qm_script.proofs.LegalPlays.{script_legal}
-use Rattle.qm_offline.specs.{Answers.Ran, Answers.Ends, Answers.Exactly, Answers.Gives, Answers.Answers, Answers.PutsUnread}
-use Rattle.qm_offline.specs.Causes.{is_full, Checks, Refuses, Accepts, Finds, Misses, PlaysTo, Stops, MayRead}
-use Rattle.qm_offline.specs.Output.{Output, Outside, outside_of, output_over, command_output, check_output, replay_output, end_status_of, limits_of, play_of, play_from, journal_for, cannot_read, usage}
+use Rattle.qm_offline.specs.{Answers.Ran, Answers.Ends, Answers.Exactly, Answers.Gives, Answers.Answers, Answers.IsLegalOver, Answers.PutsUnread, Answers.Schema, Answers.Stood}
+use Rattle.qm_offline.specs.Causes.{is_full, needs_script, Loads, Refuses, Accepts, Finds, Misses, PlaysTo, Stops, MayRead}
+use Rattle.qm_offline.specs.Output.{Output, Outside, output_over, schema_output, command_output, replay_output, end_status_of, fault_line, limits_of, play_of, play_from, play_over, journal_for, schema_of, world_of, cannot_read, usage}
 use Rattle.qapi_check.specs.{Checking.table_of, declared.loading.SchemaFault.SchemaFault}
-use Rattle.qm_offline.specs.{Words.Command, Words.Check, Words.Replay, Words.Words, Words.names_defined}
+use Rattle.qm_offline.specs.declared.loading.Command.{Command, TheVariants.Check, TheVariants.Introspect, TheVariants.Replay}
+use Rattle.qm_offline.specs.{Loading.IsLoaded, Words.Words, Words.names_defined}
+use Rattle.qm_offline.specs.declared.loading.Loaded.{Loaded}
+use Rattle.qm_core.specs.declared.{monitor.Limits.Limits, world.World.World}
+use Rattle.qm_script.specs.Playing.{played_of}
 
 told_more-nothing : (told : Option (List ℕ)) → told ≡ told_more told []
 told_more-nothing None = refl
@@ -25,7 +31,7 @@ holds_nothing : (told now : Option (List ℕ)) (piece : List ℕ) → now ≡ to
 holds_nothing told now piece same = record { part = []; within = empty_prefix piece; told = same ∙ told_more-nothing told }
 
 -- the files that are told, or else others
-abbrev run_files : Option (List NamedText) → List NamedText → List NamedText
+abbrev pub run_files : Option (List NamedText) → List NamedText → List NamedText
 run_files None other = other
 run_files (Some told) other = told
 
@@ -47,20 +53,41 @@ script-answer None name None value = refl
 script-answer None name (Some text) value = rw (name_is name) refl
 script-answer (Some told) name answer value = sym (value told refl)
 
--- the output where the words ask for a check, or for a script
-checks_output : (words : Option Words) (outside : Outside) (answer : Result Parts SchemaFault) → Checks words outside answer →
-    output_over words outside ≡ check_output answer
-checks_output words outside answer checks =
-    ap (λ (w : Option Words). output_over w outside) checks.words_ask
-    ∙ ap (λ (c : Command). command_output outside checks.asked.entries c) checks.check
-    ∙ ap check_output checks.answers
+-- what stood outside where the schema and the script are read in the same files
+abbrev pub schema_over : Option Words → List NamedText → Result Parts SchemaFault
+schema_over None files = table_of files None []
+schema_over (Some w) files = schema_of w files
+
+pub schema-over : (words : Option Words) (files : List NamedText) → Schema words files (schema_over words files)
+schema-over None files = tt
+schema-over (Some w) files = refl
+
+abbrev pub outside_over : Option Words → List NamedText → Outside
+outside_over words files = record { schema = schema_over words files; files = files }
+
+abbrev outside_for : Ran → Outside
+outside_for ran = outside_over ran.words (run_files ran.files [])
+
+stood_for : (ran : Ran) → Stood ran (outside_for ran)
+stood_for ran = record {
+  files = run_files ran.files [];
+  schema = schema-over ran.words (run_files ran.files []);
+  schema_told = λ told e. files-told ran.files [] told e;
+  script_told = λ told e. files-told ran.files [] told e;
+}
+
+-- the output where the schema is refused, or has no fault
+loads_output : (words : Option Words) (outside : Outside) (answer : Result Parts SchemaFault) (loads : Loads words outside answer) →
+    output_over words outside ≡ schema_output loads.asked outside.files answer
+loads_output words outside answer loads =
+    ap (λ (w : Option Words). output_over w outside) loads.words_ask ∙ ap (schema_output loads.asked outside.files) loads.answers
 
 finds_output : (words : Option Words) (outside : Outside) (script : Option (List ℕ)) (finds : Finds words outside script) →
-    output_over words outside ≡ replay_output finds.name (option_map (play_of finds.asked.entries) script)
+    output_over words outside ≡ replay_output finds.name (option_map (play_of finds.parts finds.loads.asked.entries) script)
 finds_output words outside script finds =
-    ap (λ (w : Option Words). output_over w outside) finds.words_ask
-    ∙ ap (λ (c : Command). command_output outside finds.asked.entries c) finds.replay
-    ∙ ap (λ (t : Option (List ℕ)). replay_output finds.name (option_map (play_of finds.asked.entries) t)) finds.found
+    loads_output words outside (Ok finds.parts) finds.loads
+    ∙ ap (command_output finds.parts outside.files finds.loads.asked.entries) finds.replay
+    ∙ ap (λ (t : Option (List ℕ)). replay_output finds.name (option_map (play_of finds.parts finds.loads.asked.entries) t)) finds.found
 
 plays_status : (words : Option Words) (outside : Outside) (end : Option Refused) → PlaysTo words outside end →
     (output_over words outside).status ≡ end_status_of (end_of end)
@@ -81,12 +108,20 @@ stop_status full words outside stops =
     ∙ stop_number stops.line.line stops.line.stop
     ∙ ap (λ (b : Bool). cond b 9 5) stops.cause
 
+alone_status : (parts : Parts) (files : List NamedText) (entries : ℕ) (command : Command) → needs_script command ≡ false →
+    (command_output parts files entries command).status ≡ 0
+alone_status parts files entries Check alone = refl
+alone_status parts files entries Introspect alone = refl
+alone_status parts files entries (Replay name) alone = absurd cc
+
 whole_status : (words : Option Words) (outside : Outside) → Accepts words outside ⊎ PlaysTo words outside None → (output_over words outside).status ≡ 0
-whole_status words outside (inl accepts) = ap (λ (o : Output). o.status) (checks_output words outside (Ok accepts.parts) accepts.checks)
+whole_status words outside (inl accepts) =
+    ap (λ (o : Output). o.status) (loads_output words outside (Ok accepts.parts) accepts.loads)
+    ∙ alone_status accepts.parts outside.files accepts.loads.asked.entries accepts.loads.asked.command accepts.alone
 whole_status words outside (inr plays) = plays_status words outside None plays
 
 schema_status : (words : Option Words) (outside : Outside) → Refuses words outside → (output_over words outside).status ≡ 3
-schema_status words outside refuses = ap (λ (o : Output). o.status) (checks_output words outside (Err refuses.fault) refuses.checks)
+schema_status words outside refuses = ap (λ (o : Output). o.status) (loads_output words outside (Err refuses.fault) refuses.loads)
 
 script_status : (words : Option Words) (outside : Outside) → Misses words outside ⊎ Stops false words outside → (output_over words outside).status ≡ 5
 script_status words outside (inl misses) = ap (λ (o : Output). o.status) (finds_output words outside None misses)
@@ -104,11 +139,6 @@ Says words outside n =
     (cond (n == 5) (Misses words outside ⊎ Stops false words outside)
     (cond (n == 9) (Stops true words outside) ⊥))))
 
-schema_says : (w : Words) (outside : Outside) (answer : Result Parts SchemaFault) → w.command ≡ Check → outside.schema ≡ answer →
-    Says (Some w) outside (check_output answer).status
-schema_says w outside (Ok parts) check answers = inl record { parts = parts; checks = record { asked = w; words_ask = refl; check = check; answers = answers } }
-schema_says w outside (Err fault) check answers = record { fault = fault; checks = record { asked = w; words_ask = refl; check = check; answers = answers } }
-
 stop_says : (words : Option Words) (outside : Outside) (line : Refused) (stop : Stop) → PlaysTo words outside (Some line) → line.stop ≡ stop →
     Says words outside (end_status_of (stop_end_of line.line stop))
 stop_says words outside line BadLine plays is = inr record { line = line; plays = plays; cause = ap is_full is }
@@ -120,38 +150,65 @@ end_says : (words : Option Words) (outside : Outside) (end : Option Refused) →
 end_says words outside None plays = inr plays
 end_says words outside (Some line) plays = stop_says words outside line line.stop plays refl
 
-script_says : (w : Words) (outside : Outside) (name : List ℕ) (script : Option (List ℕ)) → w.command ≡ Replay name → text_of name outside.files ≡ script →
-    Says (Some w) outside (replay_output name (option_map (play_of w.entries) script)).status
-script_says w outside name None replay found = inl record { asked = w; words_ask = refl; name = name; replay = replay; found = found }
-script_says w outside name (Some script) replay found =
-    end_says (Some w) outside (play_of w.entries script).refused
-    (record { script = script; finds = record { asked = w; words_ask = refl; name = name; replay = replay; found = found }; end_is = refl })
+script_says : (words : Option Words) (outside : Outside) (parts : Parts) (loads : Loads words outside (Ok parts)) (name : List ℕ) (script : Option (List ℕ)) →
+    loads.asked.command ≡ Replay name → text_of name outside.files ≡ script →
+    Says words outside (replay_output name (option_map (play_of parts loads.asked.entries) script)).status
+script_says words outside parts loads name None replay found = inl record { parts = parts; loads = loads; name = name; replay = replay; found = found }
+script_says words outside parts loads name (Some script) replay found =
+    end_says words outside (play_of parts loads.asked.entries script).refused
+    (record { script = script; finds = record { parts = parts; loads = loads; name = name; replay = replay; found = found }; end_is = refl })
 
-command_says : (w : Words) (outside : Outside) (command : Command) → w.command ≡ command → Says (Some w) outside (command_output outside w.entries command).status
-command_says w outside Check is = schema_says w outside outside.schema is refl
-command_says w outside (Replay name) is = script_says w outside name (text_of name outside.files) is refl
+command_says : (words : Option Words) (outside : Outside) (parts : Parts) (loads : Loads words outside (Ok parts)) (command : Command) → loads.asked.command ≡ command →
+    Says words outside (command_output parts outside.files loads.asked.entries command).status
+command_says words outside parts loads Check is = inl record { parts = parts; loads = loads; alone = ap needs_script is }
+command_says words outside parts loads Introspect is = inl record { parts = parts; loads = loads; alone = ap needs_script is }
+command_says words outside parts loads (Replay name) is = script_says words outside parts loads name (text_of name outside.files) is refl
+
+schema_says : (w : Words) (outside : Outside) (answer : Result Parts SchemaFault) → outside.schema ≡ answer → Says (Some w) outside (schema_output w outside.files answer).status
+schema_says w outside (Ok parts) is = command_says (Some w) outside parts (record { asked = w; words_ask = refl; answers = is }) w.command refl
+schema_says w outside (Err fault) is = record { fault = fault; loads = record { asked = w; words_ask = refl; answers = is } }
 
 says : (words : Option Words) (outside : Outside) → Says words outside (output_over words outside).status
 says None outside = refl
-says (Some w) outside = command_says w outside w.command refl
+says (Some w) outside = schema_says w outside outside.schema refl
 
 says_at : (words : Option Words) (outside : Outside) (n : ℕ) → n ≡ (output_over words outside).status → Says words outside n
 says_at words outside n is = subst (λ (k : ℕ). Says words outside k) (sym is) (says words outside)
 
 -- the journal of a run is legal
-script_journal-legal : (entries : ℕ) (script : Option (List ℕ)) →
-    IsLegal (unwrap_or (option_map (λ ended. ended.played.journal) (option_map (play_of entries) script)) [])
-script_journal-legal entries None = tt
-script_journal-legal entries (Some script) = script_legal (limits_of entries) script
+empty_legal : (world : World) → IsLegal world []
+empty_legal world = record { ordered = tt; answered = tt }
 
-command_journal-legal : (files : List NamedText) (entries : ℕ) (command : Command) →
-    IsLegal (unwrap_or (option_map (λ ended. ended.played.journal) (play_from files entries command)) [])
-command_journal-legal files entries Check = tt
-command_journal-legal files entries (Replay name) = script_journal-legal entries (text_of name files)
+script_journal-legal : (parts : Parts) (entries : ℕ) (script : Option (List ℕ)) →
+    IsLegal (world_of parts) (unwrap_or (option_map (λ ended. ended.played.journal) (option_map (play_of parts entries) script)) [])
+script_journal-legal parts entries None = empty_legal (world_of parts)
+script_journal-legal parts entries (Some script) = script_legal (world_of parts) (limits_of entries) script
 
-journal-legal : (words : Option Words) (files : List NamedText) → IsLegal (journal_for words files)
-journal-legal None files = tt
-journal-legal (Some w) files = command_journal-legal files w.entries w.command
+command_journal-legal : (parts : Parts) (files : List NamedText) (entries : ℕ) (command : Command) →
+    IsLegal (world_of parts) (unwrap_or (option_map (λ ended. ended.played.journal) (play_from parts files entries command)) [])
+command_journal-legal parts files entries Check = empty_legal (world_of parts)
+command_journal-legal parts files entries Introspect = empty_legal (world_of parts)
+command_journal-legal parts files entries (Replay name) = script_journal-legal parts entries (text_of name files)
+
+over_journal-legal : (w : Words) (files : List NamedText) (answer : Result Parts SchemaFault) →
+    IsLegalOver answer (unwrap_or (option_map (λ ended. ended.played.journal) (play_over w files answer)) [])
+over_journal-legal w files (Ok parts) = command_journal-legal parts files w.entries w.command
+over_journal-legal w files (Err fault) = refl
+
+empty_legal-over : (answer : Result Parts SchemaFault) → IsLegalOver answer []
+empty_legal-over (Ok parts) = empty_legal (world_of parts)
+empty_legal-over (Err fault) = refl
+
+journal-legal : (words : Option Words) (outside : Outside) → IsLegalOver outside.schema (journal_for words outside)
+journal-legal None outside = empty_legal-over outside.schema
+journal-legal (Some w) outside = over_journal-legal w outside.files outside.schema
+
+-- and what each session was handed begins its transcript
+legal_begins : (answer : Result Parts SchemaFault) (journal : List Entry) → IsLegalOver answer journal → (s : ℕ) →
+    IsPrefix (taken_of s (past_of journal)) (transcript_of s (past_of journal))
+legal_begins (Ok parts) journal legal s = taken_first s (past_of journal) legal.ordered
+legal_begins (Err fault) journal legal s =
+    subst (λ (j : List Entry). IsPrefix (taken_of s (past_of j)) (transcript_of s (past_of j))) (sym legal) (taken_first s [] tt)
 
 -- status and bytes are those of the output
 abbrev IsPlain : Outside → Ran → ℕ → Type 0
@@ -192,18 +249,17 @@ gives outside ran status plain wanting part =
 unnamed : (words : Option Words) (name : List ℕ) → words ≡ None → MayRead words name → ⊥
 unnamed words name none named = subst (λ (w : Option Words). MayRead w name) none named
 
-answers : (files : List NamedText) (ran : Ran) (status : ℕ) → ((told : List NamedText) → ran.files ≡ Some told → files ≡ told) →
-    Gives (outside_of ran.words files) ran status → (status ≡ 6 → Unread ran) → (status ≢ 1 → status ≢ 6 → status ≢ 7 → ran.library_now ≡ ran.library_before) →
+answers : (outside : Outside) (ran : Ran) (status : ℕ) → Stood ran outside →
+    Gives outside ran status → (status ≡ 6 → Unread ran) → (status ≢ 1 → status ≢ 6 → status ≢ 7 → ran.library_now ≡ ran.library_before) →
     (status ≡ 7 → Rose ran.sink.before ran.sink.now) → (status ≢ 7 → ran.sink.now ≡ ran.sink.before) → Answers ran status
-answers files ran status told given unread kept failed still =
-    let legal = journal-legal ran.words files in
-    let outside = outside_of ran.words files in
+answers outside ran status stood given unread kept failed still =
+    let legal = journal-legal ran.words outside in
     record {
-      files = files;
-      told = told;
+      outside = outside;
+      stood = stood;
       gives = given;
       legal = legal;
-      begins = λ s. taken_first s (past_of (journal_for ran.words files)) legal;
+      begins = legal_begins outside.schema (journal_for ran.words outside) legal;
       usage_only = λ two. says_at ran.words outside 2 (sym two ∙ given.status_is (λ e. cc) (λ e. cc) (λ e. cc));
       usage = λ none one seven. given.status_is one (λ six. unnamed ran.words ran.failed_name none (unread six).named) seven ∙ usage_status ran.words outside none;
       library_failed = λ six. (unread six).rose;
@@ -215,56 +271,77 @@ answers files ran status told given unread kept failed still =
     }
 
 -- the library did not fail
-done : (files : List NamedText) (ran : Ran) (status : ℕ) → ((told : List NamedText) → ran.files ≡ Some told → files ≡ told) →
-    ran.library_now ≡ ran.library_before → (let output = output_over ran.words (outside_of ran.words files) in Ends output.bytes output.status ran.sink status) → Answers ran status
-done files ran status told kept ends =
-    let outside = outside_of ran.words files in
-    answers files ran status told
+pub done : (outside : Outside) (ran : Ran) (status : ℕ) → Stood ran outside →
+    ran.library_now ≡ ran.library_before → (let output = output_over ran.words outside in Ends output.bytes output.status ran.sink status) → Answers ran status
+done outside ran status stood kept ends =
+    answers outside ran status stood
     (gives outside ran status (λ one six seven. (ends.is_wanted seven one, ends.whole seven one)) ends.part_at_memory (λ seven. inl (ends.part_at_fault seven)))
     (λ six. absurd (says_at ran.words outside 6 (sym six ∙ ends.is_wanted (λ e. cc) (λ e. cc))))
     (λ one six seven. kept) ends.failed ends.kept
 
--- the words are outside the grammar
-pub wrong_words : (ran : Ran) (status : ℕ) → ran.words ≡ None → ran.library_now ≡ ran.library_before → Ends usage.bytes 2 ran.sink status → Answers ran status
-wrong_words ran status none kept ends =
-    let files = run_files ran.files [] in
-    done files ran status (λ told e. files-told ran.files [] told e) kept
-    (subst (λ (o : Output). Ends o.bytes o.status ran.sink status) (sym (ap (λ (w : Option Words). output_over w (outside_of ran.words files)) none)) ends)
+-- the same for the output that is meant
+pub done_with : (outside : Outside) (ran : Ran) (status : ℕ) (output : Output) → Stood ran outside → ran.library_now ≡ ran.library_before →
+    output_over ran.words outside ≡ output → Ends output.bytes output.status ran.sink status → Answers ran status
+done_with outside ran status output stood kept meant ends =
+    done outside ran status stood kept (subst (λ (o : Output). Ends o.bytes o.status ran.sink status) (sym meant) ends)
 
--- loading and checking the schema answered
-pub checked : (files : List NamedText) (ran : Ran) (status : ℕ) (w : Words) (answer : Result Parts SchemaFault) → ran.words ≡ Some w → w.command ≡ Check →
-    ((told : List NamedText) → ran.files ≡ Some told → files ≡ told) → answer ≡ table_of files w.schema (names_defined w.define) → ran.library_now ≡ ran.library_before →
-    (let output = check_output answer in Ends output.bytes output.status ran.sink status) → Answers ran status
-checked files ran status w answer asked check told value kept ends =
-    let outside = outside_of ran.words files in
-    let checks : Checks ran.words outside answer =
-    record { asked = w; words_ask = asked; check = check; answers = ap (λ (o : Option Words). (outside_of o files).schema) asked ∙ sym value } in
-    done files ran status told kept
-    (subst (λ (o : Output). Ends o.bytes o.status ran.sink status) (sym (checks_output ran.words outside answer checks)) ends)
+-- what stood outside where what was ordered is loaded, and the script is looked for in some files
+abbrev loaded_outside : Parts → List NamedText → Outside
+loaded_outside parts files = record { schema = Ok parts; files = files }
+
+stood_loaded : (ran : Ran) (loaded : Loaded) (is : IsLoaded ran.files ran.words loaded) (files : List NamedText) →
+    ((told : List NamedText) → ran.files ≡ Some told → files ≡ told) → Stood ran (loaded_outside is.parts files)
+stood_loaded ran loaded is files told = record {
+  files = is.files;
+  schema = subst (λ (o : Option Words). Schema o is.files (Ok is.parts)) (sym is.words_ask) (sym is.schema);
+  schema_told = is.told;
+  script_told = told;
+}
+
+loads_for : (ran : Ran) (loaded : Loaded) (is : IsLoaded ran.files ran.words loaded) (files : List NamedText) → Loads ran.words (loaded_outside is.parts files) (Ok is.parts)
+loads_for ran loaded is files = record { asked = is.asked; words_ask = is.words_ask; answers = refl }
+
+-- what the schema says was put
+pub told_alone : (ran : Ran) (status : ℕ) (loaded : Loaded) (command : Command) (is : IsLoaded ran.files ran.words loaded) → loaded.command ≡ command →
+    ran.library_now ≡ ran.library_before →
+    (let output = command_output is.parts (run_files ran.files []) is.asked.entries command in Ends output.bytes output.status ran.sink status) → Answers ran status
+told_alone ran status loaded command is same kept ends =
+    let files = run_files ran.files [] in
+    let outside = loaded_outside is.parts files in
+    let asks : is.asked.command ≡ command = sym (ap (λ (l : Loaded). l.command) is.value) ∙ same in
+    done_with outside ran status _ (stood_loaded ran loaded is files (λ told e. files-told ran.files [] told e)) kept
+    (loads_output ran.words outside (Ok is.parts) (loads_for ran loaded is files) ∙ ap (command_output is.parts files is.asked.entries) asks) ends
 
 -- the library answered for the script
-pub answered : (ran : Ran) (status : ℕ) (w : Words) (name : List ℕ) (answer : Option (List ℕ)) → ran.words ≡ Some w → w.command ≡ Replay name →
+pub answered : (ran : Ran) (status : ℕ) (world : World) (limits : Limits) (name : List ℕ) (answer : Option (List ℕ)) →
+    IsLoaded ran.files ran.words (record { command = Replay name; world = world; limits = limits }) →
     ((told : List NamedText) → ran.files ≡ Some told → answer ≡ text_of name told) → ran.library_now ≡ ran.library_before →
-    (let output = replay_output name (option_map (play_of w.entries) answer) in Ends output.bytes output.status ran.sink status) → Answers ran status
-answered ran status w name answer asked replay value kept ends =
+    (let output = replay_output name (option_map (played_of world limits) answer) in Ends output.bytes output.status ran.sink status) → Answers ran status
+answered ran status world limits name answer is value kept ends =
     let files = run_files ran.files (read_file name answer) in
-    let outside = outside_of ran.words files in
-    let finds : Finds ran.words outside answer =
-    record { asked = w; words_ask = asked; name = name; replay = replay; found = script-answer ran.files name answer value } in
-    done files ran status (λ told e. files-told ran.files _ told e) kept
-    (subst (λ (o : Output). Ends o.bytes o.status ran.sink status) (sym (finds_output ran.words outside answer finds)) ends)
+    let outside = loaded_outside is.parts files in
+    let finds : Finds ran.words outside answer = record {
+      parts = is.parts;
+      loads = loads_for ran _ is files;
+      name = name;
+      replay = sym (ap (λ (l : Loaded). l.command) is.value);
+      found = script-answer ran.files name answer value;
+    } in
+    let meant : output_over ran.words outside ≡ replay_output name (option_map (played_of world limits) answer) =
+    finds_output ran.words outside answer finds
+    ∙ ap (λ (l : Loaded). replay_output name (option_map (played_of l.world l.limits) answer)) (sym is.value) in
+    done_with outside ran status _ (stood_loaded ran _ is files (λ told e. files-told ran.files _ told e)) kept meant ends
 
 -- reading a file failed
 pub unread : (ran : Ran) (status : ℕ) (name : List ℕ) → MayRead ran.words name →
     Rose ran.library_before ran.library_now → ran.failed_name ≡ name → Ends (cannot_read name) 6 ran.sink status →
     (status ≡ 1 → ran.sink.holds ≡ ran.sink.held) → Answers ran status
 unread ran status name may rose noted ends nothing =
-    let files = run_files ran.files [] in
     let six : status ≢ 1 → status ≢ 7 → status ≡ 6 = λ one seven. ends.is_wanted seven one in
     let named : MayRead ran.words ran.failed_name = subst (λ (n : List ℕ). MayRead ran.words n) (sym noted) may in
     let line : Ends (cannot_read ran.failed_name) 6 ran.sink status = subst (λ (n : List ℕ). Ends (cannot_read n) 6 ran.sink status) (sym noted) ends in
-    answers files ran status (λ told e. files-told ran.files [] told e)
-    (gives (outside_of ran.words files) ran status (λ one other seven. absurd (other (six one seven))) (λ one. holds_nothing _ _ _ (nothing one))
+    answers (outside_for ran) ran status (stood_for ran)
+    (gives (outside_for ran) ran status (λ one other seven. absurd (other (six one seven))) (λ one. holds_nothing _ _ _ (nothing one))
     (λ seven. inr record { rose = rose; named = named; part = line.part_at_fault seven }))
     (λ status_six. record { rose = rose; named = named; line = line.whole (λ e. cc) (λ e. cc) })
     (λ one other seven. absurd (other (six one seven))) ends.failed ends.kept
@@ -272,9 +349,8 @@ unread ran status name may rose noted ends nothing =
 -- memory was wanting before anything was put
 pub wanted_memory : (ran : Ran) → ran.sink.now ≡ ran.sink.before → ran.sink.holds ≡ ran.sink.held → Answers ran 1
 wanted_memory ran still nothing =
-    let files = run_files ran.files [] in
-    answers files ran 1 (λ told e. files-told ran.files [] told e)
-    (gives (outside_of ran.words files) ran 1 (λ one six seven. absurd (one refl)) (λ one. holds_nothing _ _ _ nothing) (λ seven. absurd (cc)))
+    answers (outside_for ran) ran 1 (stood_for ran)
+    (gives (outside_for ran) ran 1 (λ one six seven. absurd (one refl)) (λ one. holds_nothing _ _ _ nothing) (λ seven. absurd (cc)))
     (λ six. absurd (cc)) (λ one six seven. absurd (one refl)) (λ seven. absurd (cc)) (λ seven. still)
 
 begins_nothing : (part rest piece : List ℕ) → [] ≡ part ++ rest → IsPrefix part piece
@@ -287,14 +363,9 @@ part_of_nothing told now piece held = record { part = held.part; within = begins
 -- nothing was to be put for want of memory
 pub ended_for_memory : (ran : Ran) (status : ℕ) → Ends [] 1 ran.sink status → (status ≡ 1 → ran.sink.holds ≡ ran.sink.held) → Answers ran status
 ended_for_memory ran status ends nothing =
-    let files = run_files ran.files [] in
     let one : status ≢ 7 → status ≢ 1 → status ≡ 1 = ends.is_wanted in
-    answers files ran status (λ told e. files-told ran.files [] told e)
-    (gives (outside_of ran.words files) ran status (λ no_one six seven. absurd (no_one (one seven no_one))) (λ is. holds_nothing _ _ _ (nothing is))
+    answers (outside_for ran) ran status (stood_for ran)
+    (gives (outside_for ran) ran status (λ no_one six seven. absurd (no_one (one seven no_one))) (λ is. holds_nothing _ _ _ (nothing is))
     (λ seven. inl (part_of_nothing _ _ _ (ends.part_at_fault seven))))
     (λ six. absurd (let same = sym six ∙ one (λ e. let other = sym six ∙ e in cc) (λ e. let other = sym six ∙ e in cc) in cc))
     (λ no_one six seven. absurd (no_one (one seven no_one))) ends.failed ends.kept
-
--- the same for other words that ask for the same
-pub same_words : (ran : Ran) (words : Option Words) (status : ℕ) → ran.words ≡ words → Answers ran status → Answers (record ran { words = words }) status
-same_words ran words status same answer = subst (λ (o : Option Words). Answers (record ran { words = o }) status) same answer

@@ -1,11 +1,14 @@
 -- The answer of the top call, with its cause (this project's own rule).
-use Rattle.std.specs.Prelude.{◌≡◌, ◌≢◌, ℕ, true, false, List, Option, Some, None, ◌⊎◌}
+use Rattle.std.specs.Prelude.{◌≡◌, ◌≢◌, ℕ, true, false, List, [], Option, Some, None, Result, Ok, Err, ◌⊎◌}
 use Rattle.qm_base.specs.{Faults.Rose, Faults.told_more, Faults.HoldsPart, Prefixes.IsPrefix}
 use Rattle.qapi_load.specs.Files.{NamedText}
 use Rattle.qm_core.specs.{Legal.IsLegal, Legal.past_of, Transcript.taken_of, Transcript.transcript_of}
 use Rattle.qm_script.specs.Plays.{Sinking, Putting}
 use Rattle.qm_offline.specs.{Causes.Accepts, Causes.Refuses, Causes.Misses, Causes.PlaysTo, Causes.Stops, Causes.MayRead}
-use Rattle.qm_offline.specs.{Output.Outside, Output.outside_of, Output.output_over, Output.journal_for, Output.cannot_read, Words.Words}
+use Rattle.qm_offline.specs.{Output.Outside, Output.output_over, Output.journal_for, Output.schema_of, Output.world_of, Output.cannot_read, Words.Words}
+use Rattle.qapi_types.specs.declared.parts.Parts.{Parts}
+use Rattle.qapi_check.specs.declared.loading.SchemaFault.{SchemaFault}
+use Rattle.qm_core.specs.declared.entries.Entry.{Entry}
 
 -- what the words ask for, where they are in the grammar; and the library and the sink before and after
 -- the run: the files that the library tells, its count of faults, and the name of the latest file whose
@@ -43,7 +46,7 @@ pub record Gives (outside : Outside) (ran : Ran) (status : ℕ) : Type 0 where
   -- after want of memory or a fault of the sink a part was put
   pub wanting : status ≡ 1 → HoldsPart ran.sink.held (output_over ran.words outside).bytes ran.sink.holds
   pub sink_part : status ≡ 7 → HoldsPart ran.sink.held (output_over ran.words outside).bytes ran.sink.holds ⊎ PutsUnread ran
-  -- 0: the schema has no fault, or the script is played to its end
+  -- 0: the schema has no fault, and the script, where the words ask for one, is played to its end
   pub whole : Exactly 0 (Accepts ran.words outside ⊎ PlaysTo ran.words outside None) status
   -- 3: the schema is refused
   pub schema : Exactly 3 (Refuses ran.words outside) status
@@ -52,14 +55,31 @@ pub record Gives (outside : Outside) (ran : Ran) (status : ℕ) : Type 0 where
   -- 9: its play stops at a full journal or full sessions
   pub full : Exactly 9 (Stops true ran.words outside) status
 
-pub record Answers (ran : Ran) (status : ℕ) : Type 0 where
-  -- the files of the run; where the library tells its files, they are these
+-- what loading and checking the schema of the words answers, over files; there is no schema without words
+abbrev pub Schema : Option Words → List NamedText → Result Parts SchemaFault → Type 0
+Schema None files answer = Unit {0}
+Schema (Some w) files answer = answer ≡ schema_of w files
+
+-- what stood outside during a run: the files of the schema, and those of which one is the script; where
+-- the library tells its files, both are these
+pub record Stood (ran : Ran) (outside : Outside) : Type 0 where
   pub files : List NamedText
-  pub told : (told : List NamedText) → ran.files ≡ Some told → files ≡ told
-  pub gives : Gives (outside_of ran.words files) ran status
+  pub schema : Schema ran.words files outside.schema
+  pub schema_told : (told : List NamedText) → ran.files ≡ Some told → files ≡ told
+  pub script_told : (told : List NamedText) → ran.files ≡ Some told → outside.files ≡ told
+
+-- the journal is legal over a schema; without one it is empty
+abbrev pub IsLegalOver : Result Parts SchemaFault → List Entry → Type 0
+IsLegalOver (Ok parts) journal = IsLegal (world_of parts) journal
+IsLegalOver (Err fault) journal = journal ≡ []
+
+pub record Answers (ran : Ran) (status : ℕ) : Type 0 where
+  pub outside : Outside
+  pub stood : Stood ran outside
+  pub gives : Gives outside ran status
   -- the journal that was played is legal, and what each session was handed begins its transcript
-  pub legal : IsLegal (journal_for ran.words files)
-  pub begins : (s : ℕ) → (let past = past_of (journal_for ran.words files) in IsPrefix (taken_of s past) (transcript_of s past))
+  pub legal : IsLegalOver outside.schema (journal_for ran.words outside)
+  pub begins : (s : ℕ) → (let past = past_of (journal_for ran.words outside) in IsPrefix (taken_of s past) (transcript_of s past))
   -- 2 exactly where the words are outside the grammar
   pub usage_only : status ≡ 2 → ran.words ≡ None
   pub usage : ran.words ≡ None → status ≢ 1 → status ≢ 7 → status ≡ 2

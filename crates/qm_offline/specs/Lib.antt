@@ -1,5 +1,6 @@
 pub mod Answers
 pub mod Causes
+pub mod Loading
 pub mod Output
 pub mod Refusals
 pub mod Rules

@@ -5,7 +5,9 @@ use Rattle.qapi_load.specs.{Files.NamedText, Files.text_of, declared.fault.LoadF
 use Rattle.qapi_rules.specs.declared.fault.CheckFault.{CheckFault}
 use Rattle.qapi_types.specs.declared.{kind.Kind.Kind, parts.Parts.Parts}
 use Rattle.qapi_types.specs.declared.kind.Kind.TheVariants as kind
-use Rattle.qm_core.specs.declared.{TheConstants.MOST_TEXT, entries.Entry.Entry, monitor.Limits.Limits}
+use Rattle.qm_json.specs.Printing.{printed}
+use Rattle.qapi_mask.specs.Introspection.{introspection_of}
+use Rattle.qm_core.specs.declared.{TheConstants.MOST_TEXT, entries.Entry.Entry, monitor.Limits.Limits, world.World.World}
 use Rattle.qm_script.specs.{Playing.Ended, Playing.played_of, Playing.transcript_text_of, Endings.end_of, declared.endings.PlayEnd.PlayEnd}
 use Rattle.qm_script.specs.declared.endings.PlayEnd.TheVariants as end
 use Rattle.qapi_check.specs.{Checking.table_of, declared.loading.SchemaFault.SchemaFault}
@@ -13,7 +15,8 @@ use Rattle.qm_offline.specs.declared.refusal.Refusal.{Refusal}
 use Rattle.qapi_check.specs.declared.loading.SchemaFault.TheVariants.{Load, Check as Broken}
 use Rattle.qm_offline.specs.declared.refusal.Refusal.TheVariants as refusal
 use Rattle.qm_offline.specs.{Rules.load_word, Rules.check_word, Rules.name_printed}
-use Rattle.qm_offline.specs.Words.{Command, Check, Replay, Words, names_defined}
+use Rattle.qm_offline.specs.declared.loading.Command.{Command, TheVariants.Check, TheVariants.Introspect, TheVariants.Replay}
+use Rattle.qm_offline.specs.Words.{Words, names_defined}
 
 pub record Output : Type 0 where
   pub status : ℕ
@@ -71,9 +74,9 @@ ok_line parts =
     codes "ok " ++ decimal (length parts.commands) ++ codes " commands, " ++ decimal (length parts.events) ++ codes " events, "
     ++ decimal (named_types parts.kinds) ++ codes " types\n"
 
-abbrev pub check_output : Result Parts SchemaFault → Output
-check_output (Ok parts) = record { status = 0; bytes = ok_line parts }
-check_output (Err fault) = record { status = 3; bytes = fault_line fault }
+-- the line of what a client is told of a schema
+abbrev pub introspection_line : Parts → List ℕ
+introspection_line parts = printed (introspection_of parts) ++ codes "\n"
 
 -- there is no such script
 abbrev pub missing : List ℕ → Output
@@ -95,48 +98,60 @@ replayed ended = record { status = end_status_of (end_of ended.refused); bytes =
 abbrev pub limits_of : ℕ → Limits
 limits_of entries = record { entries = entries; text = MOST_TEXT }
 
--- what is played of a script
-abbrev pub play_of : ℕ → List ℕ → Ended
-play_of entries script = played_of (limits_of entries) script
+-- what a schema lets a monitor serve
+abbrev pub world_of : Parts → World
+world_of parts = record { schema = parts; introspection = introspection_of parts }
+
+-- what is played of a script over a schema
+abbrev pub play_of : Parts → ℕ → List ℕ → Ended
+play_of parts entries script = played_of (world_of parts) (limits_of entries) script
 
 abbrev pub replay_output : List ℕ → Option Ended → Output
 replay_output script None = missing script
 replay_output script (Some ended) = replayed ended
 
--- what stands outside: files, and what loading and checking the schema answers
+-- what stands outside: what loading and checking the schema answers, and the files of which one is the script
 pub record Outside : Type 0 where
-  pub files : List NamedText
   pub schema : Result Parts SchemaFault
-
--- what the words make of files
-abbrev pub outside_of : Option Words → List NamedText → Outside
-outside_of words files = record {
-  files = files;
-  schema = table_of files (option_and_then (λ w. w.schema) words) (names_defined (option_and_then (λ w. w.define) words));
-}
+  pub files : List NamedText
 
 -- what is played of a command's script; nothing, where it has none or there is none of that name
-abbrev pub play_from : List NamedText → ℕ → Command → Option Ended
-play_from files entries Check = None
-play_from files entries (Replay script) = option_map (play_of entries) (text_of script files)
+abbrev pub play_from : Parts → List NamedText → ℕ → Command → Option Ended
+play_from parts files entries (Replay script) = option_map (play_of parts entries) (text_of script files)
+play_from parts files entries command = None
 
--- what is played for words and files, if anything is
-abbrev pub play_for : Option Words → List NamedText → Option Ended
-play_for words files = option_and_then (λ w. play_from files w.entries w.command) words
+abbrev pub play_over : Words → List NamedText → Result Parts SchemaFault → Option Ended
+play_over w files (Ok parts) = play_from parts files w.entries w.command
+play_over w files (Err fault) = None
+
+-- what is played for words over what stands outside, if anything is
+abbrev pub play_for : Option Words → Outside → Option Ended
+play_for words outside = option_and_then (λ w. play_over w outside.files outside.schema) words
 
 -- the journal of that play
-abbrev pub journal_for : Option Words → List NamedText → List Entry
-journal_for words files = unwrap_or (option_map (λ ended. ended.played.journal) (play_for words files)) []
+abbrev pub journal_for : Option Words → Outside → List Entry
+journal_for words outside = unwrap_or (option_map (λ ended. ended.played.journal) (play_for words outside)) []
 
-abbrev pub command_output : Outside → ℕ → Command → Output
-command_output outside entries Check = check_output outside.schema
-command_output outside entries (Replay script) = replay_output script (option_map (play_of entries) (text_of script outside.files))
+abbrev pub command_output : Parts → List NamedText → ℕ → Command → Output
+command_output parts files entries Check = record { status = 0; bytes = ok_line parts }
+command_output parts files entries Introspect = record { status = 0; bytes = introspection_line parts }
+command_output parts files entries (Replay script) = replay_output script (option_map (play_of parts entries) (text_of script files))
+
+-- a schema that is refused ends the run, whatever the command
+abbrev pub schema_output : Words → List NamedText → Result Parts SchemaFault → Output
+schema_output w files (Ok parts) = command_output parts files w.entries w.command
+schema_output w files (Err fault) = record { status = 3; bytes = fault_line fault }
 
 -- the status and the bytes for words over what stands outside
 abbrev pub output_over : Option Words → Outside → Output
 output_over None outside = usage
-output_over (Some w) outside = command_output outside w.entries w.command
+output_over (Some w) outside = schema_output w outside.files outside.schema
 
--- the same for words and files
+-- what loading and checking the schema of a command line answers, over files
+abbrev pub schema_of : Words → List NamedText → Result Parts SchemaFault
+schema_of w files = table_of files w.schema (names_defined w.define)
+
+-- the status and the bytes for words over files
 abbrev pub output_of : Option Words → List NamedText → Output
-output_of words files = output_over words (outside_of words files)
+output_of None files = usage
+output_of (Some w) files = schema_output w files (schema_of w files)

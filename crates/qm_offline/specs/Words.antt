@@ -3,9 +3,10 @@ use Rattle.std.specs.Prelude.{ℕ, ◌+◌, ◌==◌, nat_eq, nat_lt, nat_le, Bo
 use Rattle.std.specs.{List.slice_split, Option.option_and_then, Str.bytes_eq}
 use Rattle.qm_base.specs.Numerals.{number_of}
 use Rattle.qm_core.specs.declared.TheConstants.{MOST_ENTRIES}
-use Rattle.qm_offline.specs.declared.words.{Slot.Slot, Command.Command as CommandWord}
+use Rattle.qm_offline.specs.declared.words.{Slot.Slot, CommandWord.CommandWord}
 use Rattle.qm_offline.specs.declared.words.Slot.TheVariants as slot
-use Rattle.qm_offline.specs.declared.words.Command.TheVariants as word
+use Rattle.qm_offline.specs.declared.words.CommandWord.TheVariants as word
+use Rattle.qm_offline.specs.declared.loading.Command.{Command, TheVariants.Check, TheVariants.Introspect, TheVariants.Replay}
 
 -- an option with its value, or the positional word
 pub record Item : Type 0 where
@@ -110,12 +111,9 @@ abbrev pub number_or : ℕ → ℕ → Option (List ℕ) → Option ℕ
 number_or other most None = Some other
 number_or other most (Some text) = option_and_then (λ n. if nat_le 1 n && nat_le n most then Some n else None) (count_of text)
 
-pub data Command : Type 0 where
-  Check : Command
-  Replay : (script : List ℕ) → Command
-
 abbrev pub command_told : CommandWord → Command
 command_told word.Check = Check
+command_told word.Introspect = Introspect
 command_told (word.Replay script) = Replay script.now
 
 -- what a command line asks for: a command, the schema's main file, the names that hold in its conditions, and
@@ -126,11 +124,12 @@ pub record Words : Type 0 where
   pub define : Option (List ℕ)
   pub entries : ℕ
 
--- the command of the first word: `check`, or `replay` with a script, which is not played over a schema yet
+-- the command of the first word: `check`, `introspect`, or `replay` with a script
 abbrev pub command_of : List ℕ → Given → Option Command
 command_of verb given =
     if bytes_eq verb (codes "check") && is_none given.positional then Some Check
-    else if bytes_eq verb (codes "replay") && is_none given.schema then option_map Replay given.positional
+    else if bytes_eq verb (codes "introspect") && is_none given.positional then Some Introspect
+    else if bytes_eq verb (codes "replay") then option_map Replay given.positional
     else None
 
 -- each option that a command has no use for is accepted; bind files are not read yet

@@ -2,12 +2,14 @@
 //! put out for them.
 #![tactic(auto)]
 
-mod check;
+mod told;
 mod defines;
+pub mod loading;
 pub mod offline;
 pub mod refusal;
 mod rules;
-pub mod words;
+mod words;
 
+pub use loading::{Command, Loaded, load};
 pub use offline::run_offline;
 pub use refusal::{Refusal, report};

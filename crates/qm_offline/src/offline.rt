@@ -1,16 +1,19 @@
-ghost use Rattle.std.specs.Prelude.{◌≡◌, ◌≤◌, IfOk, map, string_bytes, Some};
+ghost use Rattle.std.specs.Prelude.{◌≡◌, ◌≤◌, IfOk, map, string_bytes, Option};
 ghost use Rattle.qm_offline.specs.Answers.{Answers, Ends};
-ghost use Rattle.qm_offline.specs.Output.{missing as missing_of, cannot_read, replayed, play_of, end_status_of};
-ghost use Rattle.qm_offline.specs.Words.{Replay, words_of as words_of_words};
-ghost use Rattle.qm_core.specs.declared.TheConstants.{MOST_ENTRIES};
+ghost use Rattle.qm_offline.specs.Output.{missing as missing_of, cannot_read, replayed, end_status_of};
+ghost use Rattle.qm_offline.specs.Loading.{IsLoaded};
+ghost use Rattle.qm_offline.specs.Words.{Words, words_of as words_of_words};
+ghost use Rattle.qm_offline.specs.declared.loading.Command.TheVariants.{Replay};
+ghost use Rattle.qm_core.specs.declared.TheConstants.{MOST_ENTRIES, MOST_TEXT};
 ghost use Rattle.qm_script.specs.Plays.{sunk};
+ghost use Rattle.qm_script.specs.Playing.{played_of};
 
-use crate::check::check_schema;
+use crate::told::{ok_line, value_line};
+use crate::loading::{Command, Loaded, load};
 use crate::refusal::{Refusal, put_text, report};
-use crate::words::{Command, Words, words_of};
 use qapi_load::{Library, LibraryFault};
 use qm_base::{NoMemory, Text};
-use qm_core::{Limits, MOST_TEXT};
+use qm_core::{Limits, World};
 use qm_link::Sink;
 use qm_script::{PlayEnd, play};
 use std::alloc::Global;
@@ -36,51 +39,82 @@ fn status(end: PlayEnd) -> u8
     }
 }
 
-fn play_script<S: Sink>(alloc: Global, entries: u64, script: &[u8], sink: &mut S) -> u8
-    requires some { 1 ≤ entries }
-    requires few { entries ≤ MOST_ENTRIES }
-    ensures { let output = replayed (play_of entries script.now) in Ends output.bytes output.status (sunk S.contents S.faults sink.old sink.new) result }
+fn play_script<S: Sink>(
+    alloc: Global,
+    world: World,
+    limits: Limits,
+    script: &[u8],
+    sink: &mut S,
+) -> u8
+    requires some { 1 ≤ limits.entries }
+    requires few { limits.entries ≤ MOST_ENTRIES }
+    requires short { limits.text ≤ MOST_TEXT }
+    ensures { let output = replayed (played_of world limits script.now) in Ends output.bytes output.status (sunk S.contents S.faults sink.old sink.new) result }
 {
-    let limits = Limits {
-        entries,
-        text: MOST_TEXT,
-    };
-    status(play(alloc, limits, script, sink))
+    status(play(alloc, world, limits, script, sink))
 }
 
-fn refuse_unread<S: Sink>(alloc: Global, name: &[u8], sink: &mut S) -> u8
-    ensures line { Ends (cannot_read name.now) 6 (sunk S.contents S.faults sink.old sink.new) result }
+fn refuse_unread<S: Sink>(alloc: Global, name: Text, sink: &mut S) -> u8
+    ensures line { Ends (cannot_read name) 6 (sunk S.contents S.faults sink.old sink.new) result }
     ensures nothing { result ≡ 1 → S.contents sink.new ≡ S.contents sink.old }
 {
-    match Text::of(alloc, name) {
-        Ok(name) => report(alloc, &Refusal::Library(name), sink),
-        Err(NoMemory) => 1,
-    }
+    report(alloc, &Refusal::Library(name), sink)
 }
 
-/// Plays a script, and puts its transcript.
+/// Plays the script of the name over a world, and puts its transcript.
 fn replay_script<L: Library, S: Sink>(
     alloc: Global,
-    words: &Words<'_>,
-    name: &[u8],
+    world: World,
+    limits: Limits,
+    name: Text,
     library: &mut L,
     sink: &mut S,
 ) -> u8
-    requires { words.now.command ≡ Replay name.now }
-    ensures { Answers record {
-      words = Some words.now;
-      files = L.files library.old;
-      library_before = L.faults library.old;
-      library_now = L.faults library.new;
-      failed_name = L.failed_name library.new;
-      sink = sunk S.contents S.faults sink.old sink.new;
-    } result }
+    requires some { 1 ≤ limits.entries }
+    requires few { limits.entries ≤ MOST_ENTRIES }
+    requires short { limits.text ≤ MOST_TEXT }
+    ensures { (words : Option Words) → IsLoaded (L.files library.old) words (record { command = Replay name; world = world; limits = limits }) →
+        Answers record {
+          words = words;
+          files = L.files library.old;
+          library_before = L.faults library.old;
+          library_now = L.faults library.new;
+          failed_name = L.failed_name library.new;
+          sink = sunk S.contents S.faults sink.old sink.new;
+        } result }
 {
-    match library.text(alloc, name) {
-        Ok(Some(script)) => play_script(alloc, words.entries(), script.as_slice(), sink),
-        Ok(None) => put_text(missing(alloc, name), 5, sink),
+    match library.text(alloc, name.as_slice()) {
+        Ok(Some(script)) => play_script(alloc, world, limits, script.as_slice(), sink),
+        Ok(None) => put_text(missing(alloc, name.as_slice()), 5, sink),
         Err(LibraryFault::Failed) => refuse_unread(alloc, name, sink),
         Err(LibraryFault::Memory) => 1,
+    }
+}
+
+/// Does what a command line orders.
+fn run<L: Library, S: Sink>(alloc: Global, loaded: Loaded, library: &mut L, sink: &mut S) -> u8
+    requires some { 1 ≤ loaded.limits.entries }
+    requires few { loaded.limits.entries ≤ MOST_ENTRIES }
+    requires short { loaded.limits.text ≤ MOST_TEXT }
+    ensures { (words : Option Words) → IsLoaded (L.files library.old) words loaded →
+        Answers record {
+          words = words;
+          files = L.files library.old;
+          library_before = L.faults library.old;
+          library_now = L.faults library.new;
+          failed_name = L.failed_name library.new;
+          sink = sunk S.contents S.faults sink.old sink.new;
+        } result }
+{
+    let Loaded {
+        command,
+        world,
+        limits,
+    } = loaded;
+    match command {
+        Command::Check => put_text(ok_line(alloc, &world.schema), 0, sink),
+        Command::Introspect => put_text(value_line(alloc, &world.introspection), 0, sink),
+        Command::Replay(name) => replay_script(alloc, world, limits, name, library, sink),
     }
 }
 
@@ -103,11 +137,8 @@ pub fn run_offline<L: Library, S: Sink>(
       sink = sunk S.contents S.faults sink.old sink.new;
     } result }
 {
-    let Some(words) = words_of(words) else {
-        return report(alloc, &Refusal::Words, sink);
-    };
-    match words.command() {
-        Command::Check => check_schema(alloc, &words, library, sink),
-        Command::Replay(name) => replay_script(alloc, &words, name, library, sink),
+    match load(alloc, words, library) {
+        Ok(loaded) => run(alloc, loaded, library, sink),
+        Err(refusal) => report(alloc, &refusal, sink),
     }
 }

@@ -239,12 +239,14 @@ fn number_or(other: u64, most: u64, word: Option<&[u8]>) -> Option<u64>
     if 1 <= n && n <= most { Some(n) } else { None }
 }
 
-/// What a command line orders.
+/// The command of a command line.
 #[derive(Clone, Copy, Debug, Drop)]
-pub enum Command<'a> {
-    /// `check`: loads and checks the schema.
+pub enum CommandWord<'a> {
+    /// `check`.
     Check,
-    /// `replay`: plays the script of this name.
+    /// `introspect`.
+    Introspect,
+    /// `replay` with the name of a script.
     Replay(&'a [u8]),
 }
 
@@ -252,7 +254,7 @@ pub enum Command<'a> {
 /// conditions, and how many entries and open sessions a journal may have together, 1 to 1,000,000.
 #[derive(Drop)]
 pub struct Words<'a> {
-    command: Command<'a>,
+    command: CommandWord<'a>,
     schema: Option<&'a [u8]>,
     define: Option<&'a [u8]>,
     entries: u64,
@@ -278,7 +280,7 @@ impl<'a> Model for Words<'a> {
 
 impl<'a> Words<'a> {
     /// What is ordered.
-    pub fn command(&self) -> Command<'a>
+    pub fn command(&self) -> CommandWord<'a>
         ensures { command_told result ≡ self.now.command }
     {
         self.command
@@ -308,14 +310,17 @@ impl<'a> Words<'a> {
     }
 }
 
-fn command_given<'a>(verb: &[u8], given: &Given<'a>) -> Option<Command<'a>>
+fn command_given<'a>(verb: &[u8], given: &Given<'a>) -> Option<CommandWord<'a>>
     ensures { option_map command_told result ≡ command_of verb.now given.now }
 {
     if verb == b"check".as_slice() && given.positional.is_none() {
-        return Some(Command::Check);
+        return Some(CommandWord::Check);
     }
-    if verb == b"replay".as_slice() && given.schema.is_none() {
-        return Some(Command::Replay(given.positional?));
+    if verb == b"introspect".as_slice() && given.positional.is_none() {
+        return Some(CommandWord::Introspect);
+    }
+    if verb == b"replay".as_slice() {
+        return Some(CommandWord::Replay(given.positional?));
     }
     None
 }

@@ -1,19 +1,12 @@
-//! The command `check`.
-ghost use Rattle.std.specs.Prelude.{◌≡◌, IfOk, position, Some};
-ghost use Rattle.qm_script.specs.Plays.{sunk};
-ghost use Rattle.qm_offline.specs.Answers.{Answers};
+//! What is told of a schema.
+ghost use Rattle.std.specs.Prelude.{◌≡◌, ◌++◌, IfOk, position, codes};
+ghost use Rattle.qm_json.specs.Printing.{printed};
 ghost use Rattle.qm_offline.specs.Output.{is_str as is_str_kind, named_types as named_types_in, ok_line as ok_line_of};
-ghost use Rattle.qm_offline.specs.Words.{Check};
 
-use crate::defines::names_defined;
-use crate::refusal::{put_text, refusal_of, report};
-use crate::words::Words;
 use itoa::Buffer;
-use qapi_check::load_schema;
-use qapi_load::Library;
 use qapi_types::{Kind, Schema};
 use qm_base::{NoMemory, Text};
-use qm_link::Sink;
+use qm_json::Json;
 use std::alloc::Global;
 
 fn is_str(kind: &Kind) -> bool
@@ -48,7 +41,8 @@ fn named_types(kinds: &[Kind]) -> usize
     }
 }
 
-fn ok_line(alloc: Global, schema: &Schema) -> Result<Text, NoMemory>
+/// The line that tells how many commands, events and types a schema defines.
+pub fn ok_line(alloc: Global, schema: &Schema) -> Result<Text, NoMemory>
     ensures { IfOk result (λ line. line ≡ ok_line_of schema.now) }
 {
     let parts = schema.parts();
@@ -63,29 +57,12 @@ fn ok_line(alloc: Global, schema: &Schema) -> Result<Text, NoMemory>
     Ok(line)
 }
 
-/// Loads and checks the schema that the words name, or the prelude alone, and puts how many
-/// commands, events and types it defines, or why it is refused.
-pub fn check_schema<L: Library, S: Sink>(
-    alloc: Global,
-    words: &Words<'_>,
-    library: &mut L,
-    sink: &mut S,
-) -> u8
-    requires { words.now.command ≡ Check }
-    ensures { Answers record {
-      words = Some words.now;
-      files = L.files library.old;
-      library_before = L.faults library.old;
-      library_now = L.faults library.new;
-      failed_name = L.failed_name library.new;
-      sink = sunk S.contents S.faults sink.old sink.new;
-    } result }
+/// The line of a printed value.
+pub fn value_line(alloc: Global, value: &Json) -> Result<Text, NoMemory>
+    ensures { IfOk result (λ line. line ≡ printed value.now ++ codes "\n") }
 {
-    let Ok(names) = names_defined(alloc, words.define()) else {
-        return 1;
-    };
-    match load_schema(alloc, library, words.schema(), names.as_slice()) {
-        Ok(schema) => put_text(ok_line(alloc, &schema), 0, sink),
-        Err(fault) => report(alloc, &refusal_of(fault), sink),
-    }
+    let mut line = Text::new(alloc);
+    value.write_text(&mut line)?;
+    line.push(b'\n')?;
+    Ok(line)
 }
