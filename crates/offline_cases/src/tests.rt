@@ -12,6 +12,7 @@ mod lines;
 mod name_rules;
 mod runs;
 mod schemas;
+mod served;
 mod type_rules;
 
 /// What is put for words that are outside the grammar.
@@ -172,5 +173,27 @@ fn words_in_the_grammar_and_outside(rt: HostRuntime) -> Result<(), Fail> {
             "{words}"
         );
     }
+    Ok(())
+}
+
+#[test]
+fn runs_over_a_schema(rt: HostRuntime) -> Result<(), Fail> {
+    let alloc = rt.alloc();
+    assert_eq!(rt; other_answers(alloc, served::FILES, served::PLAYED)?.as_str(), "");
+    assert_eq!(rt; other_answers(alloc, served::FILES, served::REFUSED)?.as_str(), "");
+    let words = "replay --schema s1.json a.script";
+    let unread = run(alloc, words, served::FILES, 1, 0)?;
+    assert_eq!(rt; unread.as_str(), "6\nerror: cannot read s1.json\n");
+    let unread = run(alloc, words, served::FILES, 2, 0)?;
+    assert_eq!(rt; unread.as_str(), "6\nerror: cannot read a.script\n");
+    Ok(())
+}
+
+#[test]
+fn what_is_told_of_a_schema(rt: HostRuntime) -> Result<(), Fail> {
+    let told = run(rt.alloc(), "introspect", "", 0, 0)?;
+    assert!(rt; told.as_str().starts_with(served::TOLD));
+    assert!(rt; told.as_str().ends_with("}]\n"));
+    assert_eq!(rt; told.as_str().lines().count(), 2);
     Ok(())
 }

@@ -28,12 +28,12 @@ replay --jour 4 a.script
 replay --workers=33 a.script
 replay a.script a.script
 replay -- a.script --journal=4
-replay --schema s.json a.script
 replay --bind b.json a.script
 check a.script
 check --schema
 check --schema s.json --schema=s.json
-introspect
+introspect a.script
+introspect --schema
 serve s
 drill 4
 replay

@@ -1,13 +1,13 @@
 //! The lines that tell why a command line is not run.
 
 use super::USAGE;
-use crate::refusal::{Refusal, report};
 use qapi_lex::LexFault;
 use qapi_load::{LoadFault, LoadRule};
 use qapi_rules::{CheckFault, CheckRule};
 use qapi_tree::TreeRule;
 use qm_base::{CallList, Text};
 use qm_link::MemorySink;
+use qm_offline::{Refusal, report};
 use std::alloc::Global;
 use std::test::Fail;
 
