@@ -39,7 +39,7 @@ pub struct Loaded {
     pub limits: Limits,
 }
 
-fn command(alloc: Global, word: CommandWord<'_>) -> Result<Command, NoMemory>
+fn ordered(alloc: Global, word: CommandWord<'_>) -> Result<Command, NoMemory>
     ensures { IfOk result (λ command. command ≡ command_told word.entry) }
 {
     match word {
@@ -49,7 +49,7 @@ fn command(alloc: Global, word: CommandWord<'_>) -> Result<Command, NoMemory>
     }
 }
 
-fn world(alloc: Global, schema: Schema) -> Result<World, NoMemory>
+fn served(alloc: Global, schema: Schema) -> Result<World, NoMemory>
     requires { HasPrelude schema }
     ensures { IfOk result (λ world. world ≡ world_of_schema schema) }
 {
@@ -60,7 +60,7 @@ fn world(alloc: Global, schema: Schema) -> Result<World, NoMemory>
     })
 }
 
-fn loaded(alloc: Global, words: &Words<'_>, schema: Schema) -> Result<Loaded, NoMemory>
+fn over_schema(alloc: Global, words: &Words<'_>, schema: Schema) -> Result<Loaded, NoMemory>
     requires { HasPrelude schema }
     ensures value { IfOk result (λ loaded. Ok loaded ≡ loaded_over words.now (Ok schema)) }
     ensures some { IfOk result (λ loaded. 1 ≤ loaded.limits.entries) }
@@ -68,8 +68,8 @@ fn loaded(alloc: Global, words: &Words<'_>, schema: Schema) -> Result<Loaded, No
     ensures short { IfOk result (λ loaded. loaded.limits.text ≤ MOST_TEXT) }
 {
     Ok(Loaded {
-        command: command(alloc, words.command())?,
-        world: world(alloc, schema)?,
+        command: ordered(alloc, words.command())?,
+        world: served(alloc, schema)?,
         limits: Limits {
             entries: words.entries(),
             text: MOST_TEXT,
@@ -95,7 +95,7 @@ fn load_words<L: Library>(
         return Err(Refusal::Memory);
     };
     match load_schema(alloc, library, words.schema(), names.as_slice()) {
-        Ok(schema) => match loaded(alloc, words, schema) {
+        Ok(schema) => match over_schema(alloc, words, schema) {
             Ok(loaded) => Ok(loaded),
             Err(NoMemory) => Err(Refusal::Memory),
         },
