@@ -141,5 +141,11 @@ pub(crate) fn effect(
     ensures { IfOk result (λ effect. effect
         ≡ effect_of world.now command (option_copied arguments.entry)) }
 {
-    named_effect(alloc, world, command, arguments, command_name(world, command))
+    named_effect(
+        alloc,
+        world,
+        command,
+        arguments,
+        command_name(world, command),
+    )
 }
