@@ -122,6 +122,13 @@ fn named_effect(
     returned(alloc, world, command, Members::new(alloc).into_json())
 }
 
+fn command_name(world: &World, command: u32) -> &[u8]
+    requires id { command < length world.now.schema.commands }
+    ensures { result.now ≡ command_name_at world.now command }
+{
+    world.schema.command(command).name.as_slice()
+}
+
 /// What comes of the command of the number, called with the arguments. Until commands have what
 /// they do written beside the schema, most return the empty object.
 pub(crate) fn effect(
@@ -134,6 +141,11 @@ pub(crate) fn effect(
     ensures { IfOk result (λ effect. effect
         ≡ effect_of world.now command (option_copied arguments.entry)) }
 {
-    let name = world.schema.command(command).name.as_slice();
-    named_effect(alloc, world, command, arguments, name)
+    named_effect(
+        alloc,
+        world,
+        command,
+        arguments,
+        command_name(world, command),
+    )
 }

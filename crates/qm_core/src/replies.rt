@@ -52,11 +52,7 @@ fn effect_members(alloc: Global, effect: Effect) -> Result<Members, NoMemory>
 {
     match effect {
         Ok(value) => lone(alloc, b"return", value),
-        Err(text) => lone(
-            alloc,
-            b"error",
-            error(alloc, Class::GenericError, text)?,
-        ),
+        Err(text) => lone(alloc, b"error", error(alloc, Class::GenericError, text)?),
     }
 }
 
