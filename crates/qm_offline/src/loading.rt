@@ -1,6 +1,6 @@
 //! What a command line asks for: its words, and the schema that they name.
 ghost use Rattle.std.specs.Prelude.{◌≡◌, ◌≤◌, IfOk, map, string_bytes, Some, Ok};
-ghost use Rattle.qapi_mask.specs.Prelude.{HasPrelude};
+ghost use Rattle.qapi_types.specs.Prelude.{HasPrelude};
 ghost use Rattle.qm_core.specs.declared.TheConstants.{MOST_ENTRIES, MOST_TEXT};
 ghost use Rattle.qm_offline.specs.Loading.{HasCause, LoadedFrom, loaded_over};
 ghost use Rattle.qm_offline.specs.Output.{world_of as world_of_schema};
