@@ -8,4 +8,8 @@ mod playing;
 #[cfg(test)]
 mod replies;
 #[cfg(test)]
+mod schemas;
+#[cfg(test)]
 mod sessions;
+#[cfg(test)]
+mod worlds;

@@ -5,6 +5,7 @@ ghost use Rattle.std.specs.Prelude.{◌≤◌, IfOk};
 ghost use Rattle.qm_core.specs.Inputs.{IsCleanInput};
 ghost use Rattle.qm_core.specs.declared.TheConstants.{MOST_ENTRIES, MOST_TEXT};
 
+use crate::worlds::prelude_world;
 use qm_base::Shared;
 use qm_core::{Input, Limits, LineList, Monitor, Offer};
 use qm_read::read;
@@ -18,13 +19,13 @@ pub(crate) const NEGOTIATION: &str = r#"{"execute": "qmp_capabilities"}"#;
 pub(crate) const GREETING: &str =
     r#"{"QMP": {"version": {"qemu": {"micro": 0, "minor": 0, "major": 1}, "package": "qmpd"}, "capabilities": ["oob"]}}"#;
 
-/// A monitor with these limits, whose session 1 was opened.
+/// A monitor with these limits and no schema's file, whose session 1 was opened.
 pub(crate) fn opened(alloc: Global, limits: Limits) -> Result<Monitor, Fail>
     requires some { 1 ≤ limits.entries }
     requires few { limits.entries ≤ MOST_ENTRIES }
     requires short { limits.text ≤ MOST_TEXT }
 {
-    let mut monitor = Monitor::new(alloc, limits)?;
+    let mut monitor = Monitor::new(alloc, prelude_world(alloc)?, limits)?;
     monitor.open(alloc)?;
     Ok(monitor)
 }

@@ -1,6 +1,7 @@
 //! One session from its opening to its end.
 
 use crate::playing::{GREETING, answer_text, line_at, opened, taken};
+use crate::worlds::prelude_world;
 use qm_base::Text;
 use qm_core::{Cause, Limits, MOST_TEXT, Monitor, StepFault};
 use std::alloc::Global;
@@ -18,7 +19,7 @@ fn first_session(alloc: Global) -> Result<u32, Fail> {
         entries: 8,
         text: 1000,
     };
-    let mut monitor = Monitor::new(alloc, limits)?;
+    let mut monitor = Monitor::new(alloc, prelude_world(alloc)?, limits)?;
     Ok(monitor.open(alloc)?)
 }
 

@@ -3,24 +3,39 @@ use Rattle.std.proofs.Common.{◌≡◌, ℕ, ◌==◌, true, false, ◌||◌, L
 use Rattle.std.specs.List.{list_any}
 use Rattle.std.proofs.lemmas.{List.reverse-append, Bool.and_parts, Bool.or_cases, Bool.Decides.Decides-eqb}
 use Rattle.qm_core.specs.declared.entries.Entry.{Entry, TheVariants.Open, TheVariants.Admit, TheVariants.Start, TheVariants.Done, TheVariants.Take, TheVariants.Eof, TheVariants.Drop}
-use Rattle.qm_core.specs.{Legal.past_of, Legal.AllFollow, Legal.IsLegal, Order.MayFollow}
+use Rattle.qm_core.specs.declared.world.World.{World}
+use Rattle.qm_core.specs.{Answers.IsAnswer, Answers.AllAnswer, Legal.past_of, Legal.AllFollow, Legal.IsLegal, Order.MayFollow}
 use Rattle.qm_core.specs.Standing.{sessions_of, was_opened, is_dropped}
 
 pub past_of-append : (journal : List Entry) (e : Entry) → past_of (journal ++ e ∷ []) ≡ e ∷ past_of journal
 past_of-append journal e = reverse-append journal (e ∷ [])
 
-pub legal-append : (journal : List Entry) (e : Entry) → IsLegal journal → MayFollow (past_of journal) e → IsLegal (journal ++ e ∷ [])
-legal-append journal e legal may = rw (past_of-append journal e) (may, legal)
+pub legal-append : (world : World) (journal : List Entry) (e : Entry) → IsLegal world journal → MayFollow (past_of journal) e → IsAnswer world (past_of journal) e → IsLegal world (journal ++ e ∷ [])
+legal-append world journal e legal may answer = record {
+  ordered = rw (past_of-append journal e) (may, legal.ordered);
+  answered = rw (past_of-append journal e) (answer, legal.answered);
+}
+
+-- the past of a journal, seen from an entry in it
+swapped : (before : List Entry) (e : Entry) (after : List Entry) → past_of (before ++ e ∷ after) ≡ reverse after ++ e ∷ past_of before
+swapped before e after =
+    reverse-append before (e ∷ after) ∙ ap (λ l. l ++ past_of before) (reverse-append (e ∷ []) after) ∙ append_assoc (reverse after) (e ∷ []) (past_of before)
 
 within : (later : List Entry) (e : Entry) (past : List Entry) → AllFollow (later ++ e ∷ past) → MayFollow past e
 within [] e past h = h.0
 within (x ∷ later) e past h = within later e past h.1
 
 -- every entry may come after those before it
-pub legal_at : (before : List Entry) (e : Entry) (after : List Entry) → IsLegal (before ++ e ∷ after) → MayFollow (past_of before) e
-legal_at before e after legal =
-    let swapped : past_of (before ++ e ∷ after) ≡ (reverse after ++ e ∷ []) ++ past_of before = reverse-append before (e ∷ after) ∙ ap (λ l. l ++ past_of before) (reverse-append (e ∷ []) after) in
-    within (reverse after) e (past_of before) (subst AllFollow (swapped ∙ append_assoc (reverse after) (e ∷ []) (past_of before)) legal)
+pub legal_at : (world : World) (before : List Entry) (e : Entry) (after : List Entry) → IsLegal world (before ++ e ∷ after) → MayFollow (past_of before) e
+legal_at world before e after legal = within (reverse after) e (past_of before) (subst AllFollow (swapped before e after) legal.ordered)
+
+answer_within : (world : World) (later : List Entry) (e : Entry) (past : List Entry) → AllAnswer world (later ++ e ∷ past) → IsAnswer world past e
+answer_within world [] e past h = h.0
+answer_within world (x ∷ later) e past h = answer_within world later e past h.1
+
+-- every reply is the answer to what runs
+pub answer_at : (world : World) (before : List Entry) (e : Entry) (after : List Entry) → IsLegal world (before ++ e ∷ after) → IsAnswer world (past_of before) e
+answer_at world before e after legal = answer_within world (reverse after) e (past_of before) (subst (λ past. AllAnswer world past) (swapped before e after) legal.answered)
 
 opened_more : (s t : ℕ) (opened : List ℕ) → list_any (λ u. u == s) opened ≡ true → list_any (λ u. u == s) (opened ++ t ∷ []) ≡ true
 opened_more s t [] h = cc

@@ -9,22 +9,22 @@ use Rattle.qm_core.specs.declared.entries.Entry.TheVariants.{Open, Admit, Done, 
 use Rattle.qm_core.specs.declared.{inputs.Input.Input, monitor.Monitor.TheInside.Inside as Fields, requests.Request.Request}
 use Rattle.qm_core.specs.{declared.requests.RequestName.RequestName, declared.sessions.Session.Session, Inputs.IsCleanInput}
 use Rattle.qm_core.specs.Kept.{IsPlaced, IsSession, IsFirstOpen, IsRunning, IsSound, answered, sent, view_of}
-use Rattle.qm_core.specs.{Legal.past_of, Order.MayFollow, Replies.reply_to, Replies.is_return}
+use Rattle.qm_core.specs.{Answers.IsAnswer, Legal.past_of, Order.MayFollow, Replies.reply_to, Replies.is_return}
 use Rattle.qm_core.specs.Standing.{sessions_of, is_ended, open_count_of, admitted_of, in_flight_of, mode_of, running_of, negotiates, last_moment_of}
 use Rattle.qm_core.specs.Texts.{entry_text_of}
 use Rattle.qm_core.proofs.{Journals.legal-append, Journals.past_of-append, KeptSessions.kept-admit, KeptSessions.kept-done, KeptSessions.kept-open, KeptSessions.none_waits, Texts.text_more}
 
 -- the fields after one more entry are sound
 pub after_entry : (m : Fields) (e : Entry) (journal : Reserved Entry) (bytes : ℕ) (session : Session) (running : Option Request) (moment : ℕ) → IsSound m →
-    MayFollow (past_of m.journal.items) e → IsPlaced (view_of m) e bytes → journal ≡ record m.journal { items = m.journal.items ++ e ∷ [] } →
+    MayFollow (past_of m.journal.items) e → IsAnswer m.world (past_of m.journal.items) e → IsPlaced (view_of m) e bytes → journal ≡ record m.journal { items = m.journal.items ++ e ∷ [] } →
     IsSession (e ∷ past_of m.journal.items) session → IsRunning (e ∷ past_of m.journal.items) running → moment ≡ last_moment_of (e ∷ past_of m.journal.items) →
-    IsSound record { limits = m.limits; journal = journal; session = session; running = running; last_moment = moment }
-after_entry m e journal bytes session running moment sound may placed added kept runs last =
+    IsSound record { world = m.world; limits = m.limits; journal = journal; session = session; running = running; last_moment = moment }
+after_entry m e journal bytes session running moment sound may answer placed added kept runs last =
     let next = past_of-append m.journal.items e in
     let more = text_more m.journal.items e in
     let one = length-append m.journal.items (e ∷ []) in
     rw added record {
-      legal = legal-append m.journal.items e sound.legal may;
+      legal = legal-append m.world m.journal.items e sound.legal may answer;
       room = record { entries = rw next (omega (arith, one, placed.room.entries)); text = rw next (omega (arith, more, placed.bytes, placed.room.text)) };
       places = sound.places;
       few = sound.few;
@@ -39,6 +39,7 @@ pub sound-admit : (m : Fields) (journal : Reserved Entry) (s bytes : ℕ) (input
     IsPlaced (view_of m) (Admit s (admitted_of s (past_of m.journal.items) + 1) InBand input) bytes →
     journal ≡ record m.journal { items = m.journal.items ++ Admit s (m.session.admitted + 1) InBand input ∷ [] } →
     IsSound record {
+      world = m.world;
       limits = m.limits;
       journal = journal;
       session = record m.session {
@@ -61,37 +62,36 @@ sound-admit m journal s bytes input waiting sound first more below clean same pl
       below = rw one at below;
       clean = clean;
     }
-    (rw (number, one) at placed) (rw one at added) (kept-admit past m.session input (rw one at first) (none_waits 1 past (rw one at below)) sound.session) record { request = sound.running.request; of_first = sound.running.of_first } sound.moment)
+    tt (rw (number, one) at placed) (rw one at added) (kept-admit past m.session input (rw one at first) (none_waits 1 past (rw one at below)) sound.session) record { request = sound.running.request; of_first = sound.running.of_first } sound.moment)
 
 pub sound-done : (m : Fields) (journal : Reserved Entry) (s k bytes : ℕ) (request : Request) (reply : Json) (line : List ℕ) (moment last : ℕ) (commands : Bool) (session : Session) → IsSound m →
     running_of (past_of m.journal.items) ≡ Some request → request.session ≡ s → request.number ≡ k → s ≡ 1 →
-    reply ≡ reply_to request → line ≡ printed (reply_to request) → commands ≡ (negotiates (Some request) && is_return (reply_to request)) → last ≡ max moment m.last_moment → last < 2 ^ 64 →
+    reply ≡ reply_to m.world request → line ≡ printed (reply_to m.world request) → commands ≡ (negotiates (Some request) && is_return (reply_to m.world request)) → last ≡ max moment m.last_moment → last < 2 ^ 64 →
     IsPlaced (view_of m) (Done s k reply last) bytes →
     session ≡ answered m.session line commands →
     journal ≡ record m.journal { items = m.journal.items ++ Done s k reply last ∷ [] } →
-    IsSound record { limits = m.limits; journal = journal; session = session; running = None; last_moment = last }
+    IsSound record { world = m.world; limits = m.limits; journal = journal; session = session; running = None; last_moment = last }
 sound-done m journal s k bytes request reply line moment last commands session sound runs named numbered one answer printing change greatest small placed said added =
     let past = past_of m.journal.items in
     let later : last_moment_of past ≤ last = omega (arith, sound.moment, greatest) in
     let again : last ≡ max last (last_moment_of past) = omega (arith, later) in
-    let opens : commands ≡ (negotiates (running_of past) && is_return (reply_to request)) = rw runs change in
-    rw (said, printing) (after_entry m (Done 1 k (reply_to request) last) journal bytes _ None last sound
+    let opens : commands ≡ (negotiates (running_of past) && is_return (reply_to m.world request)) = rw runs change in
+    rw (said, printing) (after_entry m (Done 1 k (reply_to m.world request) last) journal bytes _ None last sound
     record {
       running = rw runs (ap (λ (q : RequestName). Some q) (rw (named, numbered, one) refl));
-      answer = rw runs refl;
       later = later;
       below = small;
     }
-    (rw (answer, one) at placed) (rw (answer, one) at added) (kept-done past m.session k (reply_to request) last commands sound.legal sound.session opens) record { request = refl; of_first = tt } again)
+    (rw runs refl) (rw (answer, one) at placed) (rw (answer, one) at added) (kept-done past m.session k (reply_to m.world request) last commands sound.legal.ordered sound.session opens) record { request = refl; of_first = tt } again)
 
 pub sound-open : (m : Fields) (journal : Reserved Entry) (bytes : ℕ) (line : List ℕ) → IsSound m → sessions_of (past_of m.journal.items) ≡ [] →
     line ≡ printed greeting_value → IsPlaced (view_of m) (Open 1) bytes →
     journal ≡ record m.journal { items = m.journal.items ++ Open 1 ∷ [] } →
-    IsSound record { limits = m.limits; journal = journal; session = record (sent m.session line) { opened = true }; running = m.running; last_moment = m.last_moment }
+    IsSound record { world = m.world; limits = m.limits; journal = journal; session = record (sent m.session line) { opened = true }; running = m.running; last_moment = m.last_moment }
 sound-open m journal bytes line sound none greeting placed added =
     rw greeting (after_entry m (Open 1) journal bytes _ m.running m.last_moment sound
     record { next = rw none refl; few = omega arith }
-    placed added (kept-open (past_of m.journal.items) m.session sound.legal none sound.session) record { request = sound.running.request; of_first = sound.running.of_first } sound.moment)
+    tt placed added (kept-open (past_of m.journal.items) m.session sound.legal.ordered none sound.session) record { request = sound.running.request; of_first = sound.running.of_first } sound.moment)
 
 -- a drop has kept its place
 pub drop-place : (m : Fields) (s bytes : ℕ) (cause : Cause) → IsSound m → IsFirstOpen (past_of m.journal.items) s →

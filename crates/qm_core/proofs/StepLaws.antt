@@ -7,7 +7,7 @@ use Rattle.qm_caps.specs.Modes.{bound_of}
 use Rattle.qm_core.specs.declared.{TheConstants.MOST_SESSIONS, entries.Entry.Entry, entries.StepFault.StepFault}
 use Rattle.qm_core.specs.declared.entries.Entry.TheVariants as entry
 use Rattle.qm_core.specs.declared.entries.StepFault.TheVariants.{NoSession, Closed, InputEnded, Busy, Nothing, NotRunning, SessionsFull}
-use Rattle.qm_core.specs.{declared.monitor.Limits.Limits, declared.requests.Request.Request, declared.requests.RequestName.RequestName, Legal.past_of, Legal.AllFollow, Legal.IsLegal}
+use Rattle.qm_core.specs.{declared.monitor.Limits.Limits, declared.requests.Request.Request, declared.requests.RequestName.RequestName, declared.world.World.World, Answers.IsAnswer, Legal.past_of, Legal.AllFollow, Legal.IsLegal}
 use Rattle.qm_core.specs.Next.{Next, View, Step, Open, Admit, Start, Finish, Take, End, Drop, IsCleanStep, entry_of, start_entry, refusal_of, full_refusal, session_refusal, cause_fault, names, is_running}
 use Rattle.qm_core.specs.Order.{MayFollow, cause_holds}
 use Rattle.qm_core.specs.Standing.{sessions_of, was_opened, is_dropped, is_ended, is_open, in_flight_of, mode_of, running_of, starting_of, named_of, last_moment_of}
@@ -55,30 +55,45 @@ last-below (entry.Take s lines ∷ past) legal = last-below past legal.1
 last-below (entry.Eof s ∷ past) legal = last-below past legal.1
 last-below (entry.Drop s why ∷ past) legal = last-below past legal.1
 
-pub may_follow : (limits : Limits) (past : List Entry) (step : Step) → last_moment_of past < 2 ^ 64 → IsCleanStep step → None ≡ refusal_of limits past step → MayFollow past (entry_of past step)
-may_follow limits past Open small clean h = (let few = (passed (nat_le MOST_SESSIONS (length (sessions_of past))) SessionsFull (full_refusal limits past (entry_of past Open)) h).0 in record { next = refl; few = grind (arith, nat_tests, few) })
-may_follow limits past (Admit s input) small clean h =
-    (let full = full_refusal limits past (entry_of past (Admit s input)) in
+pub may_follow : (world : World) (limits : Limits) (past : List Entry) (step : Step) → last_moment_of past < 2 ^ 64 → IsCleanStep step → None ≡ refusal_of world limits past step → MayFollow past (entry_of world past step)
+may_follow world limits past Open small clean h = (let few = (passed (nat_le MOST_SESSIONS (length (sessions_of past))) SessionsFull (full_refusal limits past (entry_of world past Open)) h).0 in record { next = refl; few = grind (arith, nat_tests, few) })
+may_follow world limits past (Admit s input) small clean h =
+    (let full = full_refusal limits past (entry_of world past (Admit s input)) in
     let busy = nat_le (bound_of (mode_of s past)) (in_flight_of s past) in
     let first = open_first s past (if is_ended s past then Some InputEnded else if busy then Some Busy else full) h in
     let more = passed (is_ended s past) InputEnded (if busy then Some Busy else full) first.1 in
     let below : busy ≡ false = (passed busy Busy full more.1).0 in
     record { is_open = first.0; more = more.0; next = refl; in_band = refl; below = grind (arith, nat_tests, below); clean = clean })
-may_follow limits past Start small clean h = starts past (running_of past) (starting_of past) refl refl (passed (is_some (running_of past) || is_none (starting_of past)) Nothing (full_refusal limits past (entry_of past Start)) h).0
-may_follow limits past (Finish s k moment) small clean h = record { running = named_is s k (named_of (running_of past)) (held (is_running s k past) NotRunning (full_refusal limits past (entry_of past (Finish s k moment))) h).0; answer = refl; later = omega arith; below = omega (arith, small, clean) }
-may_follow limits past (Take s) small clean h =
-    (let full = full_refusal limits past (entry_of past (Take s)) in
+may_follow world limits past Start small clean h = starts past (running_of past) (starting_of past) refl refl (passed (is_some (running_of past) || is_none (starting_of past)) Nothing (full_refusal limits past (entry_of world past Start)) h).0
+may_follow world limits past (Finish s k moment) small clean h = record { running = named_is s k (named_of (running_of past)) (held (is_running s k past) NotRunning (full_refusal limits past (entry_of world past (Finish s k moment))) h).0; later = omega arith; below = omega (arith, small, clean) }
+may_follow world limits past (Take s) small clean h =
+    (let full = full_refusal limits past (entry_of world past (Take s)) in
     let first = open_first s past (if length (untaken_of s past) == 0 then Some Nothing else full) h in
     let some : (length (untaken_of s past) == 0) ≡ false = (passed (length (untaken_of s past) == 0) Nothing full first.1).0 in
     record { is_open = first.0; some = grind (arith, nat_tests, some); all = refl })
-may_follow limits past (End s) small clean h =
-    (let full = full_refusal limits past (entry_of past (End s)) in
+may_follow world limits past (End s) small clean h =
+    (let full = full_refusal limits past (entry_of world past (End s)) in
     let first = open_first s past (if is_ended s past then Some InputEnded else full) h in
     record { is_open = first.0; more = (passed (is_ended s past) InputEnded full first.1).0 })
-may_follow limits past (Drop s why) small clean h =
+may_follow world limits past (Drop s why) small clean h =
     (let first = open_first s past (if cause_holds past s why then None else Some (cause_fault why)) h in
     record { is_open = first.0; holds = (held (cause_holds past s why) (cause_fault why) None first.1).0 })
 
-pub next_legal : (old : View) (step : Step) (fault : Option StepFault) (new : View) → Next old step fault new → IsCleanStep step → IsLegal old.journal → IsLegal new.journal
-next_legal old step (Some f) new next clean legal = rw next.journal legal
-next_legal old step None new next clean legal = rw next.journal (legal-append old.journal (entry_of (past_of old.journal) step) legal (may_follow old.limits (past_of old.journal) step (last-below (past_of old.journal) legal) clean next.answer))
+pub is_answer : (world : World) (past : List Entry) (step : Step) → IsAnswer world past (entry_of world past step)
+is_answer world past Open = tt
+is_answer world past (Admit s input) = tt
+is_answer world past Start = of_start (named_of (starting_of past)) where
+  of_start : (q : Option RequestName) → IsAnswer world past (start_entry q)
+  of_start None = tt
+  of_start (Some q) = tt
+is_answer world past (Finish s k moment) = refl
+is_answer world past (Take s) = tt
+is_answer world past (End s) = tt
+is_answer world past (Drop s why) = tt
+
+pub next_legal : (old : View) (step : Step) (fault : Option StepFault) (new : View) → Next old step fault new → IsCleanStep step → IsLegal old.world old.journal → IsLegal new.world new.journal
+next_legal old step (Some f) new next clean legal = rw (next.journal, next.world) legal
+next_legal old step None new next clean legal =
+    let past = past_of old.journal in
+    rw (next.journal, next.world) (legal-append old.world old.journal (entry_of old.world past step) legal
+    (may_follow old.world old.limits past step (last-below past legal.ordered) clean next.answer) (is_answer old.world past step))

@@ -9,7 +9,7 @@ use Rattle.qm_core.specs.{Texts.entry_text_of, Texts.text_of, Transcript.has_ove
 use Rattle.qm_core.specs.declared.{TheConstants.MOST_ENTRIES, TheConstants.MOST_TEXT, TheConstants.MOST_UNTAKEN, entries.Entry.Entry, entries.StepFault.StepFault, monitor.Monitor.TheInside.Inside as Fields, requests.Request.Request, sessions.Session.Session}
 
 abbrev pub view_of : Fields → View
-view_of m = record { limits = m.limits; journal = m.journal.items }
+view_of m = record { world = m.world; limits = m.limits; journal = m.journal.items }
 
 -- a session that was not opened
 abbrev pub unopened : Session
@@ -42,7 +42,7 @@ pub record IsRunning (past : List Entry) (running : Option Request) : Type 0 whe
 
 -- the fields are what stands in the journal, which is legal and has its places
 pub record IsSound (m : Fields) : Type 0 where
-  pub legal : IsLegal m.journal.items
+  pub legal : IsLegal m.world m.journal.items
   pub room : HasRoom m.limits m.journal.items
   pub places : m.limits.entries ≤ m.journal.places
   pub few : m.limits.entries ≤ MOST_ENTRIES
@@ -53,7 +53,7 @@ pub record IsSound (m : Fields) : Type 0 where
 
 -- the refusal of a step
 abbrev pub refusal_in : View → Step → Option StepFault
-refusal_in m step = refusal_of m.limits (past_of m.journal) step
+refusal_in m step = refusal_of m.world m.limits (past_of m.journal) step
 
 -- there is room for an entry of so many bytes, after which so many sessions are open
 abbrev pub HasPlace : View → ℕ → ℕ → Type 0

@@ -1,7 +1,7 @@
 -- Legal journals, and the room of a journal (this project's own rule).
 use Rattle.std.specs.Prelude.{ℕ, ◌+◌, ◌*◌, ◌≤◌, nat_le, Bool, ◌&&◌, List, [], ◌∷◌, length, reverse}
-use Rattle.qm_core.specs.{Order.MayFollow, Standing.open_count_of, Texts.text_of, declared.TheConstants.DROP_BYTES}
-use Rattle.qm_core.specs.declared.{entries.Entry.Entry, monitor.Limits.Limits}
+use Rattle.qm_core.specs.{Answers.AllAnswer, Order.MayFollow, Standing.open_count_of, Texts.text_of, declared.TheConstants.DROP_BYTES}
+use Rattle.qm_core.specs.declared.{entries.Entry.Entry, monitor.Limits.Limits, world.World.World}
 
 -- the entries of a journal, the newest first
 abbrev pub past_of : List Entry → List Entry
@@ -11,9 +11,10 @@ abbrev pub AllFollow : List Entry → Type 0
 AllFollow [] = Unit {0}
 AllFollow (e ∷ past) = MayFollow past e × AllFollow past
 
--- each entry may come after those before it
-abbrev pub IsLegal : List Entry → Type 0
-IsLegal journal = AllFollow (past_of journal)
+-- each entry may come after those before it, and each reply is the answer of the world
+pub record IsLegal (world : World) (journal : List Entry) : Type 0 where
+  pub ordered : AllFollow (past_of journal)
+  pub answered : AllAnswer world (past_of journal)
 
 -- so many entries and bytes are within the limits, with what is kept for the drop of each open session:
 -- a place, and the bytes of its line

@@ -2,13 +2,13 @@
 use Rattle.std.specs.Prelude.{◌≡◌, ℕ, ◌+◌, ◌^◌, ◌<◌, ◌==◌, nat_le, max, Bool, false, if◌then◌else◌, ◌&&◌, ◌||◌, List, [], ◌∷◌, ◌++◌, length, reverse, Option, Some, None, is_some, is_none, refl}
 use Rattle.std.specs.{Coded.Coded, Coded.code_by, Coded.coded×, Coded.coded_list, Coded.coded_ℕ, Option.option_or}
 use Rattle.qm_caps.specs.{Modes.bound_of, declared.mode.Lane.TheVariants.InBand}
-use Rattle.qm_core.specs.{Inputs.IsCleanInput, Legal.past_of, Legal.is_within, Order.reply_of, Order.cause_holds}
+use Rattle.qm_core.specs.{Inputs.IsCleanInput, Legal.past_of, Legal.is_within, Answers.reply_of, Order.cause_holds}
 use Rattle.qm_core.specs.Standing.{sessions_of, was_opened, is_dropped, is_ended, open_count_of, admitted_of, in_flight_of, mode_of, running_of, starting_of, named_of, last_moment_of}
 use Rattle.qm_core.specs.{Texts.text_of, Texts.entry_text_of, Transcript.untaken_of, declared.TheConstants.MOST_SESSIONS}
 use Rattle.qm_core.specs.declared.entries.{Cause.Cause, Cause.TheVariants.Ended, Entry.Entry, StepFault.StepFault}
 use Rattle.qm_core.specs.declared.entries.Entry.TheVariants as entry
 use Rattle.qm_core.specs.declared.entries.StepFault.TheVariants.{NoSession, Closed, InputEnded, Busy, Nothing, NotRunning, NotDrained, WrongCause, SessionsFull, JournalFull}
-use Rattle.qm_core.specs.declared.{inputs.Input.Input, monitor.Limits.Limits, requests.RequestName.RequestName}
+use Rattle.qm_core.specs.declared.{inputs.Input.Input, monitor.Limits.Limits, requests.RequestName.RequestName, world.World.World}
 
 -- what is asked of a monitor
 pub data Step : Type 0 where
@@ -32,14 +32,14 @@ start_entry None = entry.Start 0 0
 start_entry (Some q) = entry.Start q.session q.number
 
 -- the entry of a step that is not refused
-abbrev pub entry_of : List Entry → Step → Entry
-entry_of past Open = entry.Open (length (sessions_of past) + 1)
-entry_of past (Admit s input) = entry.Admit s (admitted_of s past + 1) InBand input
-entry_of past Start = start_entry (named_of (starting_of past))
-entry_of past (Finish s k moment) = entry.Done s k (reply_of (running_of past)) (max moment (last_moment_of past))
-entry_of past (Take s) = entry.Take s (untaken_of s past)
-entry_of past (End s) = entry.Eof s
-entry_of past (Drop s cause) = entry.Drop s cause
+abbrev pub entry_of : World → List Entry → Step → Entry
+entry_of world past Open = entry.Open (length (sessions_of past) + 1)
+entry_of world past (Admit s input) = entry.Admit s (admitted_of s past + 1) InBand input
+entry_of world past Start = start_entry (named_of (starting_of past))
+entry_of world past (Finish s k moment) = entry.Done s k (reply_of world (running_of past)) (max moment (last_moment_of past))
+entry_of world past (Take s) = entry.Take s (untaken_of s past)
+entry_of world past (End s) = entry.Eof s
+entry_of world past (Drop s cause) = entry.Drop s cause
 
 -- the journal is full, unless it has room
 abbrev pub full_unless : Bool → Option StepFault
@@ -72,25 +72,26 @@ cause_fault Ended = NotDrained
 cause_fault _ = WrongCause
 
 -- the first refusal whose condition holds
-abbrev pub refusal_of : Limits → List Entry → Step → Option StepFault
-refusal_of limits past Open =
-    if nat_le MOST_SESSIONS (length (sessions_of past)) then Some SessionsFull else full_refusal limits past (entry_of past Open)
-refusal_of limits past (Admit s input) = session_refusal s past
+abbrev pub refusal_of : World → Limits → List Entry → Step → Option StepFault
+refusal_of world limits past Open =
+    if nat_le MOST_SESSIONS (length (sessions_of past)) then Some SessionsFull else full_refusal limits past (entry_of world past Open)
+refusal_of world limits past (Admit s input) = session_refusal s past
     (if is_ended s past then Some InputEnded
     else if nat_le (bound_of (mode_of s past)) (in_flight_of s past) then Some Busy
-    else full_refusal limits past (entry_of past (Admit s input)))
-refusal_of limits past Start =
-    if is_some (running_of past) || is_none (starting_of past) then Some Nothing else full_refusal limits past (entry_of past Start)
-refusal_of limits past (Finish s k moment) =
-    if is_running s k past then full_refusal limits past (entry_of past (Finish s k moment)) else Some NotRunning
-refusal_of limits past (Take s) = session_refusal s past
-    (if length (untaken_of s past) == 0 then Some Nothing else full_refusal limits past (entry_of past (Take s)))
-refusal_of limits past (End s) = session_refusal s past
-    (if is_ended s past then Some InputEnded else full_refusal limits past (entry_of past (End s)))
-refusal_of limits past (Drop s cause) = session_refusal s past (if cause_holds past s cause then None else Some (cause_fault cause))
+    else full_refusal limits past (entry_of world past (Admit s input)))
+refusal_of world limits past Start =
+    if is_some (running_of past) || is_none (starting_of past) then Some Nothing else full_refusal limits past (entry_of world past Start)
+refusal_of world limits past (Finish s k moment) =
+    if is_running s k past then full_refusal limits past (entry_of world past (Finish s k moment)) else Some NotRunning
+refusal_of world limits past (Take s) = session_refusal s past
+    (if length (untaken_of s past) == 0 then Some Nothing else full_refusal limits past (entry_of world past (Take s)))
+refusal_of world limits past (End s) = session_refusal s past
+    (if is_ended s past then Some InputEnded else full_refusal limits past (entry_of world past (End s)))
+refusal_of world limits past (Drop s cause) = session_refusal s past (if cause_holds past s cause then None else Some (cause_fault cause))
 
 -- what contracts see of a monitor
 pub record View : Type 0 where
+  pub world : World
   pub limits : Limits
   pub journal : List Entry
 
@@ -101,12 +102,14 @@ continued (Some fault) journal e = journal
 
 -- the step was answered by its first refusal, or its one entry was added
 pub record Next (old : View) (step : Step) (fault : Option StepFault) (new : View) : Type 0 where
-  pub answer : fault ≡ refusal_of old.limits (past_of old.journal) step
-  pub journal : new.journal ≡ continued fault old.journal (entry_of (past_of old.journal) step)
+  pub answer : fault ≡ refusal_of old.world old.limits (past_of old.journal) step
+  pub journal : new.journal ≡ continued fault old.journal (entry_of old.world (past_of old.journal) step)
   pub limits : new.limits ≡ old.limits
+  pub world : new.world ≡ old.world
 
--- it is stored as the limits and the journal
-abbrev pub view_code : Coded Entry → Coded View
-view_code code =
-    code_by ((ℕ × ℕ) × List Entry) (coded× (coded× coded_ℕ coded_ℕ) (coded_list code)) (λ s. ((s.limits.entries, s.limits.text), s.journal))
-    (λ p. record { limits = record { entries = p.0.0; text = p.0.1 }; journal = p.1 }) (λ _. refl)
+-- it is stored as the world, the limits and the journal
+abbrev pub view_code : Coded World → Coded Entry → Coded View
+view_code world entry =
+    code_by (World × ((ℕ × ℕ) × List Entry)) (coded× world (coded× (coded× coded_ℕ coded_ℕ) (coded_list entry)))
+    (λ s. (s.world, ((s.limits.entries, s.limits.text), s.journal)))
+    (λ p. record { world = p.0; limits = record { entries = p.1.0.0; text = p.1.0.1 }; journal = p.1.1 }) (λ _. refl)

@@ -1,13 +1,12 @@
 -- Which entry may come next (this project's own rule).
-use Rattle.std.specs.Prelude.{◌≡◌, ℕ, ◌+◌, ◌^◌, ◌<◌, ◌≤◌, Bool, true, false, List, length, Option, Some, None}
-use Rattle.qm_json.specs.declared.value.Json.{Json, TheVariants.Null}
+use Rattle.std.specs.Prelude.{◌≡◌, ℕ, ◌+◌, ◌^◌, ◌<◌, ◌≤◌, Bool, true, false, List, length, Some, None}
 use Rattle.qm_caps.specs.{Modes.bound_of, declared.mode.Lane.Lane, declared.mode.Lane.TheVariants.InBand}
-use Rattle.qm_core.specs.{Drained.is_drained, Inputs.IsCleanInput, Replies.reply_to}
+use Rattle.qm_core.specs.{Drained.is_drained, Inputs.IsCleanInput}
 use Rattle.qm_core.specs.Standing.{sessions_of, is_open, is_ended, admitted_of, in_flight_of, mode_of, running_of, starting_of, named_of, last_moment_of}
 use Rattle.qm_core.specs.{Transcript.has_overrun, Transcript.untaken_of, declared.TheConstants.MOST_SESSIONS, declared.entries.Cause.Cause}
 use Rattle.qm_core.specs.declared.entries.{Cause.TheVariants.Ended, Cause.TheVariants.Overrun, Cause.TheVariants.Stopped, Entry.Entry}
 use Rattle.qm_core.specs.declared.entries.Entry.TheVariants.{Open, Admit, Start, Done, Take, Eof, Drop}
-use Rattle.qm_core.specs.declared.{inputs.Input.Input, requests.Request.Request}
+use Rattle.qm_core.specs.declared.inputs.Input.{Input}
 
 -- the next session is opened
 pub record MayOpen (past : List Entry) (s : ℕ) : Type 0 where
@@ -28,15 +27,9 @@ pub record MayStart (past : List Entry) (s k : ℕ) : Type 0 where
   pub idle : running_of past ≡ None
   pub turn : named_of (starting_of past) ≡ Some record { session = s; number = k }
 
--- the reply to what runs; without it there is none to give
-abbrev pub reply_of : Option Request → Json
-reply_of None = Null
-reply_of (Some request) = reply_to request
-
 -- the running request is answered
-pub record MayFinish (past : List Entry) (s k : ℕ) (reply : Json) (moment : ℕ) : Type 0 where
+pub record MayFinish (past : List Entry) (s k moment : ℕ) : Type 0 where
   pub running : named_of (running_of past) ≡ Some record { session = s; number = k }
-  pub answer : reply ≡ reply_of (running_of past)
   pub later : last_moment_of past ≤ moment
   pub below : moment < 2 ^ 64
 
@@ -68,7 +61,7 @@ abbrev pub MayFollow : List Entry → Entry → Type 0
 MayFollow past (Open s) = MayOpen past s
 MayFollow past (Admit s k lane input) = MayAdmit past s k lane input
 MayFollow past (Start s k) = MayStart past s k
-MayFollow past (Done s k reply moment) = MayFinish past s k reply moment
+MayFollow past (Done s k reply moment) = MayFinish past s k moment
 MayFollow past (Take s lines) = MayTake past s lines
 MayFollow past (Eof s) = MayEnd past s
 MayFollow past (Drop s cause) = MayDrop past s cause

@@ -1,11 +1,12 @@
 -- Error replies: their classes (QMP specification, "Error") and descriptions (this project's own rule).
 use Rattle.std.specs.Prelude.{ℕ, List, ◌++◌, codes}
 use Rattle.std.specs.Fmt.{decimal}
+use Rattle.qm_admit.specs.declared.verdict.Fault.{Fault, TheVariants.Missing, TheVariants.Unexpected, TheVariants.WrongKind, TheVariants.OutOfRange, TheVariants.BadEnum, TheVariants.NoAlternative}
 use Rattle.qm_core.specs.declared.inputs.{BadInput.BadInput, FrameWord.FrameWord, FrameWord.TheVariants.LexError, FrameWord.TheVariants.Unbalanced, FrameWord.TheVariants.TooDeep, FrameWord.TheVariants.TooLong, JsonWord.JsonWord}
 use Rattle.qm_core.specs.declared.inputs.BadInput.TheVariants as bad
 use Rattle.qm_core.specs.declared.inputs.JsonWord.TheVariants.{Expected, Duplicate, BadEscape, BadUtf8}
 use Rattle.qm_core.specs.declared.verdicts.{Class.Class, Class.TheVariants.GenericError, Class.TheVariants.CommandNotFound, Refusal.Refusal}
-use Rattle.qm_core.specs.declared.verdicts.Refusal.TheVariants.{BadInput as Malformed, NotAnObject, UnexpectedMember, TwoVerbs, NoVerb, VerbNoString, ArgumentsNoObject, NegotiationExpected, NegotiationComplete, UnknownCommand, UnexpectedArgument}
+use Rattle.qm_core.specs.declared.verdicts.Refusal.TheVariants.{BadInput as Malformed, NotAnObject, UnexpectedMember, TwoVerbs, NoVerb, VerbNoString, ArgumentsNoObject, NegotiationExpected, NegotiationComplete, UnknownCommand, Misfit}
 
 -- what a message is called that is no message or no value
 abbrev pub frame_desc_of : FrameWord → List ℕ
@@ -24,6 +25,15 @@ abbrev pub bad_desc_of : BadInput → List ℕ
 bad_desc_of (bad.Frame word) = frame_desc_of word
 bad_desc_of (bad.Json word) = json_desc_of word
 
+-- what is wrong with the arguments at the end of the way
+abbrev pub misfit_desc_of : Fault → List ℕ → List ℕ
+misfit_desc_of Missing path = codes "Parameter '" ++ path ++ codes "' is missing"
+misfit_desc_of Unexpected path = codes "Parameter '" ++ path ++ codes "' is unexpected"
+misfit_desc_of WrongKind path = codes "Invalid parameter type for '" ++ path ++ codes "'"
+misfit_desc_of OutOfRange path = codes "Parameter '" ++ path ++ codes "' is out of range"
+misfit_desc_of BadEnum path = codes "Parameter '" ++ path ++ codes "' does not accept this value"
+misfit_desc_of NoAlternative path = codes "Parameter '" ++ path ++ codes "' matches no alternative"
+
 -- the description of a refusal
 abbrev pub desc_of : Refusal → List ℕ
 desc_of (Malformed what) = bad_desc_of what
@@ -36,7 +46,7 @@ desc_of ArgumentsNoObject = codes "QMP input member 'arguments' must be an objec
 desc_of NegotiationExpected = codes "Expecting capabilities negotiation with 'qmp_capabilities'"
 desc_of NegotiationComplete = codes "Capabilities negotiation is already complete, command ignored"
 desc_of (UnknownCommand name) = codes "The command " ++ name ++ codes " has not been found"
-desc_of (UnexpectedArgument name) = codes "Parameter '" ++ name ++ codes "' is unexpected"
+desc_of (Misfit fault path) = misfit_desc_of fault path
 
 -- the class of a refusal
 abbrev pub class_of : Refusal → Class

@@ -1,15 +1,17 @@
 -- The verdict on a request: the first check that it fails, or the command that takes effect (QMP
 -- specification, "Issuing Commands" and "Capabilities Negotiation"; the order of the checks is this
 -- project's own rule).
-use Rattle.std.specs.Prelude.{ℕ, Bool, true, false, not, if◌then◌else◌, ◌&&◌, ◌||◌, List, [], ◌∷◌, codes, Option, Some, None, unwrap_or, option_map, find, slice_get}
+use Rattle.std.specs.Prelude.{ℕ, Bool, true, false, not, if◌then◌else◌, ◌&&◌, ◌||◌, List, [], ◌∷◌, codes, Option, Some, None, option_map, find, ◌<◌, length}
 use Rattle.std.specs.{Option.option_and_then, Option.option_map_or, Str.bytes_eq}
-use Rattle.qm_json.specs.{declared.value.Json.Json, declared.value.Member.Member, Members.has_name, Members.members_of, Members.member_of}
+use Rattle.qm_json.specs.{declared.value.Json.Json, declared.value.Member.Member, Members.has_name, Members.members_of}
+use Rattle.qapi_types.specs.Lookups.{place_of, command_names}
+use Rattle.qm_admit.specs.declared.verdict.Verdict.{Verdict as Admission, TheVariants.Yes, TheVariants.No}
+use Rattle.qm_admit.specs.{Misfits.command_misfit, Misfits.is_object, Misfits.verdict_of as admission_of, Paths.printed_path, Views.string_of}
 use Rattle.qm_caps.specs.declared.mode.Mode.{Mode}
 use Rattle.qm_caps.specs.declared.mode.Mode.TheVariants as mode
-use Rattle.qm_core.specs.{Inputs.is_object, Inputs.string_of, Inputs.is_verb, declared.inputs.Input.Input}
-use Rattle.qm_core.specs.declared.{inputs.Input.TheVariants.Doc, inputs.Input.TheVariants.Bad, verdicts.Command.Command, verdicts.Refusal.Refusal}
-use Rattle.qm_core.specs.declared.verdicts.Command.TheVariants as command
-use Rattle.qm_core.specs.declared.verdicts.Refusal.TheVariants.{BadInput as Malformed, NotAnObject, UnexpectedMember, TwoVerbs, NoVerb, VerbNoString, ArgumentsNoObject, NegotiationExpected, NegotiationComplete, UnknownCommand, UnexpectedArgument}
+use Rattle.qm_core.specs.{Inputs.is_verb, Inputs.arguments_of, declared.inputs.Input.Input, declared.world.World.World}
+use Rattle.qm_core.specs.declared.{inputs.Input.TheVariants.Doc, inputs.Input.TheVariants.Bad, verdicts.Refusal.Refusal}
+use Rattle.qm_core.specs.declared.verdicts.Refusal.TheVariants.{BadInput as Malformed, NotAnObject, UnexpectedMember, TwoVerbs, NoVerb, VerbNoString, ArgumentsNoObject, NegotiationExpected, NegotiationComplete, UnknownCommand, Misfit}
 use Rattle.qm_core.specs.declared.verdicts.Verdict.{Verdict, TheVariants.Refused, TheVariants.Run}
 
 -- the refusal, where the test holds
@@ -53,7 +55,7 @@ malformed mode value = first_of
 
 -- the arguments, where there are any, are no object
 abbrev pub bad_arguments : Json → Option Refusal
-bad_arguments value = option_and_then (λ a. where_holds (not (is_object a)) ArgumentsNoObject) (member_of value (codes "arguments"))
+bad_arguments value = option_and_then (λ a. where_holds (not (is_object a)) ArgumentsNoObject) (arguments_of value)
 
 -- the checks of a command's place, before or after negotiation
 abbrev pub misplaced : Mode → List ℕ → Option Refusal
@@ -61,38 +63,38 @@ misplaced mode name = first_of
     (where_holds (is_negotiating mode && not (bytes_eq name (codes "qmp_capabilities"))) NegotiationExpected
     ∷ where_holds (not (is_negotiating mode) && bytes_eq name (codes "qmp_capabilities")) NegotiationComplete ∷ [])
 
--- the commands that there are
-abbrev pub known_command : List ℕ → Option Command
-known_command name =
-    if bytes_eq name (codes "qmp_capabilities") then Some command.Capabilities
-    else if bytes_eq name (codes "query-version") then Some command.Version
-    else None
+-- the arguments do not fit what the command takes: their first fault, and the text of the way to it
+abbrev pub misfit : World → Option Json → Admission → Option Refusal
+misfit world arguments Yes = None
+misfit world arguments (No fault path) = Some (Misfit fault (printed_path world.schema.kinds arguments path))
 
--- the members of the arguments; there are none without arguments
-abbrev pub arguments_of : Json → List Member
-arguments_of value = unwrap_or (option_map members_of (member_of value (codes "arguments"))) []
+-- the command of the number takes effect where the arguments fit
+abbrev pub run_of : World → List ℕ → Option Json → Option ℕ → Verdict
+run_of world name arguments None = Refused (UnknownCommand name)
+run_of world name arguments (Some command) =
+    refused_or (misfit world arguments (admission_of (command_misfit world.schema command arguments))) (Run command)
 
--- a command takes effect where it is known, and no argument is given, since none has any
-abbrev pub run_of : List ℕ → Option Member → Option Command → Verdict
-run_of name argument None = Refused (UnknownCommand name)
-run_of name (Some m) (Some command) = Refused (UnexpectedArgument m.name)
-run_of name None (Some command) = Run command
+-- a command that takes effect is one of the world's
+abbrev pub IsKnown : World → Verdict → Type 0
+IsKnown world (Refused refusal) = Unit {0}
+IsKnown world (Run command) = command < length world.schema.commands
 
 -- the verdict on a command of this name
-abbrev pub command_verdict_of : Mode → Json → List ℕ → Verdict
-command_verdict_of mode value name =
-    refused_or (first_of (bad_arguments value ∷ misplaced mode name ∷ [])) (run_of name (slice_get (arguments_of value) 0) (known_command name))
+abbrev pub command_verdict_of : World → Mode → Json → List ℕ → Verdict
+command_verdict_of world mode value name =
+    refused_or (first_of (bad_arguments value ∷ misplaced mode name ∷ []))
+    (run_of world name (arguments_of value) (place_of (command_names world.schema) name))
 
 -- the verdict by the member that names the command
-abbrev pub verb_verdict_of : Mode → Json → Option Member → Verdict
-verb_verdict_of mode value None = Refused NoVerb
-verb_verdict_of mode value (Some m) = option_map_or (command_verdict_of mode value) (string_of m.value) (Refused (VerbNoString m.name))
+abbrev pub verb_verdict_of : World → Mode → Json → Option Member → Verdict
+verb_verdict_of world mode value None = Refused NoVerb
+verb_verdict_of world mode value (Some m) = option_map_or (command_verdict_of world mode value) (string_of m.value) (Refused (VerbNoString m.name))
 
 -- the verdict on a value
-abbrev pub request_verdict_of : Mode → Json → Verdict
-request_verdict_of mode value = refused_or (malformed mode value) (verb_verdict_of mode value (find is_verb (members_of value)))
+abbrev pub request_verdict_of : World → Mode → Json → Verdict
+request_verdict_of world mode value = refused_or (malformed mode value) (verb_verdict_of world mode value (find is_verb (members_of value)))
 
 -- the verdict on an input that was admitted in a mode
-abbrev pub verdict_of : Mode → Input → Verdict
-verdict_of mode (Doc value) = request_verdict_of mode value
-verdict_of mode (Bad bad) = Refused (Malformed bad)
+abbrev pub verdict_of : World → Mode → Input → Verdict
+verdict_of world mode (Doc value) = request_verdict_of world mode value
+verdict_of world mode (Bad bad) = Refused (Malformed bad)

@@ -1,28 +1,20 @@
-ghost use Rattle.std.specs.Prelude.{◌≡◌, ◌&&◌, not, find, slice_get, codes, IfOk};
+ghost use Rattle.std.specs.Prelude.{◌≡◌, ◌&&◌, not, find, codes, IfOk};
 ghost use Rattle.std.specs.Option.{option_copied};
 ghost use Rattle.qm_json.specs.Members.{has_name, members_of};
-ghost use Rattle.qm_core.specs.Inputs.{command_name_of, is_object, is_verb, string_of};
-ghost use Rattle.qm_core.specs.Verdicts.{arguments_of, bad_arguments, command_verdict_of, is_expected, is_negotiating, known_command as command_of_name, malformed, may_be_out_of_band, misplaced, request_verdict_of, run_of, verdict_of};
+ghost use Rattle.qapi_types.specs.Lookups.{command_names, place_of};
+ghost use Rattle.qm_admit.specs.Misfits.{is_object};
+ghost use Rattle.qm_admit.specs.Views.{string_of};
+ghost use Rattle.qm_core.specs.Inputs.{command_name_of, is_verb};
+ghost use Rattle.qm_core.specs.Verdicts.{IsKnown, bad_arguments, command_verdict_of, is_expected, is_negotiating, malformed, may_be_out_of_band, misplaced, request_verdict_of, run_of, verdict_of};
 
+use crate::arguments::{arguments, misfit};
 use crate::inputs::Input;
-use crate::verdicts::{Command, Refusal, Verdict};
+use crate::verdicts::{Refusal, Verdict};
+use crate::world::World;
 use qm_base::{NoMemory, Text};
 use qm_caps::Mode;
 use qm_json::{Json, Member, has_member};
 use std::alloc::Global;
-
-/// The command of a name, where there is one.
-pub(crate) fn known_command(name: &[u8]) -> Option<Command>
-    ensures { result ≡ command_of_name name.now }
-{
-    if name == b"qmp_capabilities".as_slice() {
-        Some(Command::Capabilities)
-    } else if name == b"query-version".as_slice() {
-        Some(Command::Version)
-    } else {
-        None
-    }
-}
 
 fn may_be_out_of_band(mode: Mode) -> bool
     ensures { result ≡ may_be_out_of_band mode }
@@ -72,7 +64,8 @@ fn has_two_verbs(members: &[Member]) -> bool
     has_member(members, b"execute") && has_member(members, b"exec-oob")
 }
 
-fn string(value: &Json) -> Option<&[u8]>
+/// The bytes of a string.
+pub(crate) fn string(value: &Json) -> Option<&[u8]>
     ensures { option_copied result ≡ string_of value.now }
 {
     match value {
@@ -94,15 +87,6 @@ pub(crate) fn members(value: &Json) -> &[Member]
     match value {
         Json::Obj(members) => members.as_slice(),
         _ => &[],
-    }
-}
-
-fn arguments(value: &Json) -> &[Member]
-    ensures { result.now ≡ arguments_of value.now }
-{
-    match value.member(b"arguments") {
-        Some(arguments) => members(arguments),
-        None => &[],
     }
 }
 
@@ -136,7 +120,7 @@ fn malformed(alloc: Global, mode: Mode, value: &Json) -> Result<Option<Refusal>,
 fn bad_arguments(value: &Json) -> Option<Refusal>
     ensures { result ≡ bad_arguments value.now }
 {
-    match value.member(b"arguments") {
+    match arguments(value) {
         Some(arguments) if !is_object(arguments) => Some(Refusal::ArgumentsNoObject),
         _ => None,
     }
@@ -155,29 +139,36 @@ fn misplaced(mode: Mode, name: &[u8]) -> Option<Refusal>
     None
 }
 
-fn run(alloc: Global, name: &[u8], arguments: &[Member]) -> Result<Verdict, NoMemory>
-    ensures { IfOk result (λ verdict. verdict
-        ≡ run_of name.now (slice_get arguments.now 0) (command_of_name name.now)) }
+fn run(
+    alloc: Global,
+    world: &World,
+    name: &[u8],
+    arguments: Option<&Json>,
+) -> Result<Verdict, NoMemory>
+    ensures value { let command = place_of (command_names world.now.schema) name.now in
+        IfOk result (λ verdict. verdict
+        ≡ run_of world.now name.now (option_copied arguments.entry) command) }
+    ensures known { IfOk result (IsKnown world.now) }
 {
-    let Some(command) = known_command(name) else {
+    let Some(command) = world.schema.find_command(name) else {
         return Ok(Verdict::Refused(Refusal::UnknownCommand(Text::of(alloc, name)?)));
     };
-    match arguments.first() {
-        Some(argument) => {
-            let name = argument.name.copy(alloc)?;
-            Ok(Verdict::Refused(Refusal::UnexpectedArgument(name)))
-        }
+    match misfit(alloc, world, command, arguments)? {
+        Some(refusal) => Ok(Verdict::Refused(refusal)),
         None => Ok(Verdict::Run(command)),
     }
 }
 
 fn command_verdict(
     alloc: Global,
+    world: &World,
     mode: Mode,
     value: &Json,
     name: &[u8],
 ) -> Result<Verdict, NoMemory>
-    ensures { IfOk result (λ verdict. verdict ≡ command_verdict_of mode value.now name.now) }
+    ensures value { IfOk result (λ verdict. verdict
+        ≡ command_verdict_of world.now mode value.now name.now) }
+    ensures known { IfOk result (IsKnown world.now) }
 {
     if let Some(refusal) = bad_arguments(value) {
         return Ok(Verdict::Refused(refusal));
@@ -185,11 +176,17 @@ fn command_verdict(
     if let Some(refusal) = misplaced(mode, name) {
         return Ok(Verdict::Refused(refusal));
     }
-    run(alloc, name, arguments(value))
+    run(alloc, world, name, arguments(value))
 }
 
-fn request_verdict(alloc: Global, mode: Mode, value: &Json) -> Result<Verdict, NoMemory>
-    ensures { IfOk result (λ verdict. verdict ≡ request_verdict_of mode value.now) }
+fn request_verdict(
+    alloc: Global,
+    world: &World,
+    mode: Mode,
+    value: &Json,
+) -> Result<Verdict, NoMemory>
+    ensures value { IfOk result (λ verdict. verdict ≡ request_verdict_of world.now mode value.now) }
+    ensures known { IfOk result (IsKnown world.now) }
 {
     if let Some(refusal) = malformed(alloc, mode, value)? {
         return Ok(Verdict::Refused(refusal));
@@ -198,18 +195,24 @@ fn request_verdict(alloc: Global, mode: Mode, value: &Json) -> Result<Verdict, N
         return Ok(Verdict::Refused(Refusal::NoVerb));
     };
     match string(&verb.value) {
-        Some(name) => command_verdict(alloc, mode, value, name),
+        Some(name) => command_verdict(alloc, world, mode, value, name),
         None => Ok(Verdict::Refused(Refusal::VerbNoString(verb.name.copy(alloc)?))),
     }
 }
 
 /// The verdict on an input that was admitted in a mode (QMP specification, "Issuing Commands" and
 /// "Capabilities Negotiation"): the first check that it fails, or the command that takes effect.
-pub(crate) fn verdict(alloc: Global, mode: Mode, input: &Input) -> Result<Verdict, NoMemory>
-    ensures { IfOk result (λ verdict. verdict ≡ verdict_of mode input.now) }
+pub(crate) fn verdict(
+    alloc: Global,
+    world: &World,
+    mode: Mode,
+    input: &Input,
+) -> Result<Verdict, NoMemory>
+    ensures value { IfOk result (λ verdict. verdict ≡ verdict_of world.now mode input.now) }
+    ensures known { IfOk result (IsKnown world.now) }
 {
     match input {
-        Input::Doc(value) => request_verdict(alloc, mode, value.get()),
+        Input::Doc(value) => request_verdict(alloc, world, mode, value.get()),
         Input::Bad(bad) => Ok(Verdict::Refused(Refusal::BadInput(*bad))),
     }
 }

@@ -2,6 +2,7 @@
 
 ghost use Rattle.std.specs.Prelude.{◌≡◌, ℕ, List, ◌∷◌, ◌++◌, Option};
 ghost use Rattle.qm_base.specs.Prefixes.{IsPrefix};
+ghost use Rattle.qm_core.specs.Answers.{IsAnswer};
 ghost use Rattle.qm_core.specs.Legal.{IsLegal, past_of};
 ghost use Rattle.qm_core.specs.Next.{Next, View, Step, IsCleanStep};
 ghost use Rattle.qm_core.specs.Order.{MayFollow};
@@ -9,26 +10,31 @@ ghost use Rattle.qm_core.specs.Transcript.{transcript_of, taken_of, untaken_of};
 ghost use Rattle.qm_core.specs.declared.TheConstants.{DROP_BYTES, MOST_ENTRIES, MOST_SESSIONS, MOST_TEXT, MOST_UNTAKEN};
 ghost use Rattle.qm_core.specs.declared.entries.Entry.{Entry};
 ghost use Rattle.qm_core.specs.declared.entries.StepFault.{StepFault};
+ghost use Rattle.qm_core.specs.declared.world.World.{World};
 
-/// Each entry may come after those before it.
+/// Each entry of a world's journal may come after those before it, and each reply is the world's
+/// answer to what runs.
 pub fn each_entry_may_follow()
-    ensures { (before : List Entry) (e : Entry) (after : List Entry) →
-        IsLegal (before ++ e ∷ after) → MayFollow (past_of before) e }
+    ensures may { (world : World) (before : List Entry) (e : Entry) (after : List Entry) →
+        IsLegal world (before ++ e ∷ after) → MayFollow (past_of before) e }
+    ensures answer { (world : World) (before : List Entry) (e : Entry) (after : List Entry) →
+        IsLegal world (before ++ e ∷ after) → IsAnswer world (past_of before) e }
 {}
 
 /// The lines that were handed out to a session begin its transcript, and those that were not are
 /// the rest of it.
 pub fn taken_lines_begin_the_transcript()
-    ensures begins { (s : ℕ) (journal : List Entry) → IsLegal journal →
+    ensures begins { (world : World) (s : ℕ) (journal : List Entry) → IsLegal world journal →
         (let past = past_of journal in IsPrefix (taken_of s past) (transcript_of s past)) }
-    ensures whole { (s : ℕ) (journal : List Entry) → IsLegal journal →
+    ensures whole { (world : World) (s : ℕ) (journal : List Entry) → IsLegal world journal →
         (let past = past_of journal in taken_of s past ++ untaken_of s past ≡ transcript_of s past) }
 {}
 
 /// After each step of a monitor its journal is as legal as before.
 pub fn a_step_keeps_the_journal_legal()
     ensures { (old : View) (step : Step) (fault : Option StepFault) (new : View) →
-        Next old step fault new → IsCleanStep step → IsLegal old.journal → IsLegal new.journal }
+        Next old step fault new → IsCleanStep step →
+        IsLegal old.world old.journal → IsLegal new.world new.journal }
 {}
 
 /// The limits, as numbers.

@@ -2,6 +2,8 @@
 //! (QMP specification, "Protocol Specification").
 #![tactic(auto)]
 
+mod arguments;
+mod effects;
 pub mod entries;
 pub mod inputs;
 pub mod journal;
@@ -18,6 +20,7 @@ mod sessions;
 mod sizes;
 pub mod verdicts;
 mod words;
+pub mod world;
 
 pub use entries::{Cause, Entry, StepFault};
 pub use inputs::{BadInput, FrameWord, Input, JsonWord};
@@ -26,8 +29,9 @@ pub use lines::LineList;
 pub use monitor::{Limits, Monitor};
 pub use offers::Offer;
 pub use requests::{Admitted, Request, RequestName, Started};
-pub use verdicts::{Class, Command, Refusal, Verdict};
+pub use verdicts::{Class, Refusal, Verdict};
 pub use words::lane_word;
+pub use world::World;
 
 /// How many sessions may ever be opened.
 pub const MOST_SESSIONS: u32 = 65_535;

@@ -9,6 +9,7 @@ use crate::entries::StepFault;
 use crate::journal::{EntryList, Journal};
 use crate::requests::{Request, RequestName};
 use crate::sessions::Session;
+use crate::world::World;
 use qm_base::NoMemory;
 use std::alloc::Global;
 use std::marker::Model;
@@ -26,9 +27,11 @@ pub struct Limits {
     pub text: u64,
 }
 
-/// The monitor: its journal, and what stands in it. Contracts see its limits and its journal.
+/// The monitor: its journal, and what stands in it. Contracts see its world, its limits and its
+/// journal.
 #[derive(Drop)]
 pub struct Monitor {
+    world: World,
     limits: Limits,
     journal: Journal,
     session: Session,
@@ -39,10 +42,11 @@ pub struct Monitor {
 impl Model for Monitor {
     ghost use Rattle.qm_core.specs.Next.{View, view_code};
     ghost use Rattle.qm_core.specs.contracts.entries.Entry as entry;
+    ghost use Rattle.qm_core.specs.contracts.world.World as setting;
 
     ghost Value = { View };
 
-    ghost coded = { view_code entry.the_row.coded };
+    ghost coded = { view_code setting.the_row.coded entry.the_row.coded };
 
     ghost use Rattle.qm_core.specs.Kept.{view_of, IsSound};
 
@@ -55,15 +59,17 @@ impl Monitor {
     ghost use Rattle.qm_core.specs.declared.TheConstants.{MOST_ENTRIES, MOST_TEXT};
     ghost use Rattle.qm_core.specs.Kept.{IsFirstOpen};
 
-    /// A monitor with an empty journal, which has its places.
-    pub fn new(alloc: Global, limits: Limits) -> Result<Monitor, NoMemory>
+    /// A monitor of a world with an empty journal, which has its places.
+    pub fn new(alloc: Global, world: World, limits: Limits) -> Result<Monitor, NoMemory>
         requires some { 1 ≤ limits.entries }
         requires few { limits.entries ≤ MOST_ENTRIES }
         requires short { limits.text ≤ MOST_TEXT }
-        ensures { IfOk result (λ monitor. monitor ≡ record { limits = limits; journal = [] }) }
+        ensures { IfOk result (λ monitor. monitor
+            ≡ record { world = world; limits = limits; journal = [] }) }
     {
         let journal = Journal::new(alloc, limits.entries as usize)?;
         Ok(Monitor {
+            world,
             limits,
             journal,
             session: Session::unopened(alloc),
@@ -75,10 +81,17 @@ impl Monitor {
     /// The journal.
     pub fn journal(&self) -> &EntryList
         ensures entries { result.now.items ≡ self.now.journal }
-        ensures legal { IsLegal self.now.journal }
+        ensures legal { IsLegal self.now.world self.now.journal }
         ensures room { HasRoom self.now.limits self.now.journal }
     {
         self.journal.entries()
+    }
+
+    /// What the monitor was made for.
+    pub fn world(&self) -> &World
+        ensures { result.now ≡ self.now.world }
+    {
+        &self.world
     }
 
     /// The request that was started and is not answered yet.

@@ -1,10 +1,11 @@
 ghost use Rattle.std.specs.Prelude.{◌≡◌, ◌++◌, IfOk};
 ghost use Rattle.std.specs.Fmt.{decimal};
-ghost use Rattle.qm_core.specs.Refusals.{bad_desc_of, class_name_of, class_of, desc_of, frame_desc_of, json_desc_of};
+ghost use Rattle.qm_core.specs.Refusals.{bad_desc_of, class_name_of, class_of, desc_of, frame_desc_of, json_desc_of, misfit_desc_of};
 
 use crate::inputs::{BadInput, FrameWord, JsonWord};
 use crate::verdicts::{Class, Refusal};
 use itoa::Buffer;
+use qm_admit::Fault;
 use qm_base::{NoMemory, Text};
 use std::alloc::Global;
 
@@ -65,6 +66,19 @@ fn bad_desc(alloc: Global, bad: BadInput) -> Result<Text, NoMemory>
     }
 }
 
+fn misfit_desc(alloc: Global, fault: Fault, path: &Text) -> Result<Text, NoMemory>
+    ensures { IfOk result (λ text. text ≡ misfit_desc_of fault path.now) }
+{
+    match fault {
+        Fault::Missing => with_name(alloc, b"Parameter '", path, b"' is missing"),
+        Fault::Unexpected => with_name(alloc, b"Parameter '", path, b"' is unexpected"),
+        Fault::WrongKind => with_name(alloc, b"Invalid parameter type for '", path, b"'"),
+        Fault::OutOfRange => with_name(alloc, b"Parameter '", path, b"' is out of range"),
+        Fault::BadEnum => with_name(alloc, b"Parameter '", path, b"' does not accept this value"),
+        Fault::NoAlternative => with_name(alloc, b"Parameter '", path, b"' matches no alternative"),
+    }
+}
+
 /// The description of a refusal.
 pub(crate) fn desc(alloc: Global, refusal: &Refusal) -> Result<Text, NoMemory>
     ensures { IfOk result (λ text. text ≡ desc_of refusal.now) }
@@ -98,9 +112,7 @@ pub(crate) fn desc(alloc: Global, refusal: &Refusal) -> Result<Text, NoMemory>
         Refusal::UnknownCommand(name) => {
             with_name(alloc, b"The command ", name, b" has not been found")
         }
-        Refusal::UnexpectedArgument(name) => {
-            with_name(alloc, b"Parameter '", name, b"' is unexpected")
-        }
+        Refusal::Misfit(fault, path) => misfit_desc(alloc, *fault, path),
     }
 }
 
@@ -118,7 +130,7 @@ pub(crate) fn class(refusal: &Refusal) -> Class
         | Refusal::NoVerb
         | Refusal::VerbNoString(_)
         | Refusal::ArgumentsNoObject
-        | Refusal::UnexpectedArgument(_) => Class::GenericError,
+        | Refusal::Misfit(_, _) => Class::GenericError,
     }
 }
 

@@ -2,37 +2,31 @@ ghost use Rattle.std.specs.Prelude.{◌≡◌, [], ◌∷◌, codes, false, IfOk
 ghost use Rattle.std.specs.Option.{option_copied};
 ghost use Rattle.qm_json.specs.Members.{has_name};
 ghost use Rattle.qm_caps.specs.Greetings.{named};
-ghost use Rattle.qm_core.specs.Replies.{error_of, id_members, id_of, is_return, outcome_of, reply_to, return_of};
+ghost use Rattle.qm_core.specs.Refusals.{class_of, desc_of};
+ghost use Rattle.qm_core.specs.Replies.{effect_member, error_value, id_members, id_of, is_return, outcome_of, reply_to};
 ghost use Rattle.qm_core.specs.Standing.{negotiates};
+ghost use Rattle.qm_core.specs.Verdicts.{IsKnown};
 
+use crate::arguments::arguments_in;
+use crate::effects::{Effect, effect};
 use crate::inputs::Input;
 use crate::judging::{command_name, members, verdict};
 use crate::refusals::{class, class_name, desc};
 use crate::requests::Request;
-use crate::verdicts::{Command, Refusal, Verdict};
-use qm_base::NoMemory;
-use qm_caps::version;
+use crate::verdicts::{Class, Refusal, Verdict};
+use crate::world::World;
+use qm_base::{NoMemory, Text};
 use qm_json::{Json, Members, has_member};
 use std::alloc::Global;
 
-fn error(alloc: Global, refusal: &Refusal) -> Result<Json, NoMemory>
-    ensures { IfOk result (λ value. value ≡ error_of refusal.now) }
+fn error(alloc: Global, class: Class, desc: Text) -> Result<Json, NoMemory>
+    ensures { IfOk result (λ value. value ≡ error_value class desc) }
 {
     let mut members = Members::new(alloc);
-    let class = Json::string(alloc, class_name(class(refusal)))?;
+    let class = Json::string(alloc, class_name(class))?;
     members.add(alloc, b"class", class)?;
-    let desc = desc(alloc, refusal)?;
     members.add(alloc, b"desc", Json::Str(desc))?;
     Ok(members.into_json())
-}
-
-fn return_value(alloc: Global, command: Command) -> Result<Json, NoMemory>
-    ensures { IfOk result (λ value. value ≡ return_of command) }
-{
-    match command {
-        Command::Capabilities => Ok(Members::new(alloc).into_json()),
-        Command::Version => version(alloc),
-    }
 }
 
 fn lone(alloc: Global, name: &[u8], value: Json) -> Result<Members, NoMemory>
@@ -43,13 +37,42 @@ fn lone(alloc: Global, name: &[u8], value: Json) -> Result<Members, NoMemory>
     Ok(members)
 }
 
-fn outcome(alloc: Global, verdict: &Verdict) -> Result<Members, NoMemory>
-    ensures outcome { IfOk result (λ members. members ≡ outcome_of verdict.now ∷ []) }
+fn refused(alloc: Global, refusal: &Refusal) -> Result<Members, NoMemory>
+    ensures value { IfOk result (λ members. members
+        ≡ named (codes "error") (error_value (class_of refusal.now) (desc_of refusal.now)) ∷ []) }
+    ensures no_id { IfOk result (λ members. has_name members (codes "id") ≡ false) }
+{
+    let desc = desc(alloc, refusal)?;
+    lone(alloc, b"error", error(alloc, class(refusal), desc)?)
+}
+
+fn effect_members(alloc: Global, effect: Effect) -> Result<Members, NoMemory>
+    ensures value { IfOk result (λ members. members ≡ effect_member effect ∷ []) }
+    ensures no_id { IfOk result (λ members. has_name members (codes "id") ≡ false) }
+{
+    match effect {
+        Ok(value) => lone(alloc, b"return", value),
+        Err(text) => lone(alloc, b"error", error(alloc, Class::GenericError, text)?),
+    }
+}
+
+fn outcome(
+    alloc: Global,
+    world: &World,
+    arguments: Option<&Json>,
+    verdict: &Verdict,
+) -> Result<Members, NoMemory>
+    requires known { IsKnown world.now verdict.now }
+    ensures outcome { IfOk result (λ members. members
+        ≡ outcome_of world.now (option_copied arguments.entry) verdict.now ∷ []) }
     ensures no_id { IfOk result (λ members. has_name members (codes "id") ≡ false) }
 {
     match verdict {
-        Verdict::Refused(refusal) => lone(alloc, b"error", error(alloc, refusal)?),
-        Verdict::Run(command) => lone(alloc, b"return", return_value(alloc, *command)?),
+        Verdict::Refused(refusal) => refused(alloc, refusal),
+        Verdict::Run(command) => {
+            let effect = effect(alloc, world, *command, arguments)?;
+            effect_members(alloc, effect)
+        }
     }
 }
 
@@ -63,11 +86,11 @@ fn id(input: &Input) -> Option<&Json>
 }
 
 /// The reply to a request, by its mode at its admission (QMP specification, "Commands Responses").
-pub(crate) fn reply(alloc: Global, request: &Request) -> Result<Json, NoMemory>
-    ensures { IfOk result (λ value. value ≡ reply_to request.now) }
+pub(crate) fn reply(alloc: Global, world: &World, request: &Request) -> Result<Json, NoMemory>
+    ensures { IfOk result (λ value. value ≡ reply_to world.now request.now) }
 {
-    let verdict = verdict(alloc, request.mode, &request.input)?;
-    let mut members = outcome(alloc, &verdict)?;
+    let verdict = verdict(alloc, world, request.mode, &request.input)?;
+    let mut members = outcome(alloc, world, arguments_in(&request.input), &verdict)?;
     match id(&request.input) {
         Some(id) => {
             members.add(alloc, b"id", id.copy(alloc)?)?;

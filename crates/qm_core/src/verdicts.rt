@@ -1,4 +1,5 @@
 use crate::inputs::BadInput;
+use qm_admit::Fault;
 use qm_base::Text;
 
 /// The class of an error reply (QMP specification, "Error").
@@ -8,15 +9,6 @@ pub enum Class {
     GenericError,
     /// The command is not known, or not in this mode.
     CommandNotFound,
-}
-
-/// A command that the server knows.
-#[derive(Clone, Copy, Debug, PartialEq, Eq)]
-pub enum Command {
-    /// `qmp_capabilities` (QMP specification, "Capabilities Negotiation").
-    Capabilities,
-    /// `query-version`.
-    Version,
 }
 
 /// Why a request is answered by an error. Names are those of the request.
@@ -42,8 +34,8 @@ pub enum Refusal {
     NegotiationComplete,
     /// There is no such command.
     UnknownCommand(Text),
-    /// The command has no such argument.
-    UnexpectedArgument(Text),
+    /// The arguments do not fit what the command takes: their first fault, and the way to it.
+    Misfit(Fault, Text),
 }
 
 /// What is made of a request before it takes effect.
@@ -51,6 +43,6 @@ pub enum Refusal {
 pub enum Verdict {
     /// It is answered by an error.
     Refused(Refusal),
-    /// The command takes effect.
-    Run(Command),
+    /// The command of this number takes effect.
+    Run(u32),
 }

@@ -1,6 +1,5 @@
 -- A line of a script, and those that follow it.
 use Rattle.std.proofs.Common.{◌≡◌, ℕ, ◌+◌, ◌-◌, ◌^◌, min, List, ◌∷◌, Some, None, Result, Ok, Err, refl, ap, sym, ◌∙◌, subst}
-use Rattle.qm_core.specs.declared.monitor.Limits.{Limits}
 use Rattle.qm_script.specs.{Kept.Turns, Lines.lines_of, Players.Playing}
 use Rattle.qm_script.specs.{Playing.Played, Playing.Ended, Playing.after_line, Playing.line_step, Playing.played_from, Kept.Finishes}
 use Rattle.qm_script.specs.declared.{endings.Stop.Stop, player.Turn.Turn}
@@ -16,26 +15,26 @@ refused n old (Err why) go turn stop turns stopped =
 
 played : (n : ℕ) (old : Playing) (step : Result Played Stop) (go : Played → Ended) (turn : Turn) →
     Turns old step turn → turn.stop ≡ None →
-    (after_line n old.played step go ≡ go turn.player.played) × (turn.player.limits ≡ old.limits)
-played n old (Ok next) go turn turns went = (ap (λ (p : Playing). go p.played) (sym turns.1), ap (λ (p : Playing). p.limits) turns.1)
+    (after_line n old.played step go ≡ go turn.player.played) × (turn.player.world ≡ old.world) × (turn.player.limits ≡ old.limits)
+played n old (Ok next) go turn turns went = (ap (λ (p : Playing). go p.played) (sym turns.1), ap (λ (p : Playing). p.world) turns.1, ap (λ (p : Playing). p.limits) turns.1)
 played n old (Err why) go turn turns went = absurd (let e : None ≡ Some why = sym went ∙ turns.0 in cc)
 
 -- a script ends at a line that is refused
 pub stop_finishes : (n : ℕ) (old : Playing) (script line later : List ℕ) (turn : Turn) (stop : Stop) (whole : Ended) →
-    lines_of script ≡ line ∷ lines_of later → played_from old.limits n old.played (lines_of script) ≡ whole →
-    Turns old (line_step old.limits old.played line) turn → turn.stop ≡ Some stop →
+    lines_of script ≡ line ∷ lines_of later → played_from old.world old.limits n old.played (lines_of script) ≡ whole →
+    Turns old (line_step old.world old.limits old.played line) turn → turn.stop ≡ Some stop →
     Finishes whole record { player = turn.player; refused = Some record { line = min n (2 ^ 32 - 1); stop = stop } }
 stop_finishes n old script line later turn stop whole lines from turns stopped =
-    let first : played_from old.limits n old.played (line ∷ lines_of later) ≡ whole = ap (λ (ls : List (List ℕ)). played_from old.limits n old.played ls) (sym lines) ∙ from in
+    let first : played_from old.world old.limits n old.played (line ∷ lines_of later) ≡ whole = ap (λ (ls : List (List ℕ)). played_from old.world old.limits n old.played ls) (sym lines) ∙ from in
     subst (λ (w : Ended). Finishes w record { player = turn.player; refused = Some record { line = min n (2 ^ 32 - 1); stop = stop } }) first
-    (refused n old (line_step old.limits old.played line) (λ next. played_from old.limits (n + 1) next (lines_of later)) turn stop turns stopped)
+    (refused n old (line_step old.world old.limits old.played line) (λ next. played_from old.world old.limits (n + 1) next (lines_of later)) turn stop turns stopped)
 
 -- it goes on after a line that is played
 pub line_goes_on : (n : ℕ) (old : Playing) (script line later : List ℕ) (turn : Turn) (whole : Ended) →
-    lines_of script ≡ line ∷ lines_of later → played_from old.limits n old.played (lines_of script) ≡ whole →
-    Turns old (line_step old.limits old.played line) turn → turn.stop ≡ None →
-    played_from turn.player.limits (n + 1) turn.player.played (lines_of later) ≡ whole
+    lines_of script ≡ line ∷ lines_of later → played_from old.world old.limits n old.played (lines_of script) ≡ whole →
+    Turns old (line_step old.world old.limits old.played line) turn → turn.stop ≡ None →
+    played_from turn.player.world turn.player.limits (n + 1) turn.player.played (lines_of later) ≡ whole
 line_goes_on n old script line later turn whole lines from turns went =
-    let first : played_from old.limits n old.played (line ∷ lines_of later) ≡ whole = ap (λ (ls : List (List ℕ)). played_from old.limits n old.played ls) (sym lines) ∙ from in
-    let next = played n old (line_step old.limits old.played line) (λ next. played_from old.limits (n + 1) next (lines_of later)) turn turns went in
-    ap (λ (limits : Limits). played_from limits (n + 1) turn.player.played (lines_of later)) next.1 ∙ sym next.0 ∙ first
+    let first : played_from old.world old.limits n old.played (line ∷ lines_of later) ≡ whole = ap (λ (ls : List (List ℕ)). played_from old.world old.limits n old.played ls) (sym lines) ∙ from in
+    let next = played n old (line_step old.world old.limits old.played line) (λ next. played_from old.world old.limits (n + 1) next (lines_of later)) turn turns went in
+    rw (next.1, next.2) (sym next.0 ∙ first)

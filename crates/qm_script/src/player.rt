@@ -15,7 +15,7 @@ use crate::feeder::Feeder;
 use crate::hex::hex_bytes;
 use crate::orders::{Order, fed_by, is_skipped, order_of_line};
 use qm_base::NoMemory;
-use qm_core::{Cause, EntryList, Input, Limits, Monitor, Offer, StepFault};
+use qm_core::{Cause, EntryList, Input, Limits, Monitor, Offer, StepFault, World};
 use std::alloc::Global;
 use std::marker::Model;
 
@@ -29,10 +29,11 @@ pub struct Player {
 impl Model for Player {
     ghost use Rattle.qm_script.specs.Players.{Playing, playing_code};
     ghost use Rattle.qm_core.specs.contracts.entries.Entry as entry;
+    ghost use Rattle.qm_core.specs.contracts.world.World as setting;
 
     ghost Value = { Playing };
 
-    ghost coded = { playing_code entry.the_row.coded };
+    ghost coded = { playing_code setting.the_row.coded entry.the_row.coded };
 
     ghost use Rattle.qm_script.specs.Kept.{shown, IsFed};
 
@@ -71,14 +72,15 @@ fn stop_of(fault: StepFault) -> Stop
 impl Player {
     ghost use Rattle.qm_script.specs.Kept.{Turns};
 
-    /// A player that has played nothing.
-    pub fn new(alloc: Global, limits: Limits) -> Result<Player, NoMemory>
+    /// A player in a world that has played nothing.
+    pub fn new(alloc: Global, world: World, limits: Limits) -> Result<Player, NoMemory>
         requires some { 1 ≤ limits.entries }
         requires few { limits.entries ≤ MOST_ENTRIES }
         requires short { limits.text ≤ MOST_TEXT }
-        ensures { IfOk result (λ player. player ≡ record { limits = limits; played = nothing_played }) }
+        ensures { IfOk result (λ player. player
+            ≡ record { world = world; limits = limits; played = nothing_played }) }
     {
-        let monitor = Monitor::new(alloc, limits)?;
+        let monitor = Monitor::new(alloc, world, limits)?;
         Ok(Player {
             monitor,
             feeder: None,
@@ -111,7 +113,7 @@ impl Player {
     }
 
     fn open(mut self, alloc: Global) -> Result<Turn, NoMemory>
-        ensures { IfOk result (Turns self (open_step self.limits self.played)) }
+        ensures { IfOk result (Turns self (open_step self.world self.limits self.played)) }
     {
         if self.feeder.is_some() {
             return Ok(self.refused(Stop::BadLine));
@@ -176,7 +178,7 @@ impl Player {
 
     fn admit_input(mut self, alloc: Global, session: u32, input: Input) -> Result<Turn, NoMemory>
         requires { IsCleanInput input }
-        ensures { IfOk result (Turns self (core_step self.limits self.played (step.Admit session input))) }
+        ensures { IfOk result (Turns self (core_step self.world self.limits self.played (step.Admit session input))) }
     {
         let mut offer = Offer::of(alloc, input)?;
         match self.monitor.admit(session, &mut offer) {
@@ -186,7 +188,7 @@ impl Player {
     }
 
     fn admit(self, alloc: Global, session: u32) -> Result<Turn, NoMemory>
-        ensures { IfOk result (Turns self (admit_step self.limits self.played session
+        ensures { IfOk result (Turns self (admit_step self.world self.limits self.played session
             (session_refusal session (past_of self.played.journal) None))) }
     {
         if !self.monitor.is_known(session) {
@@ -202,7 +204,7 @@ impl Player {
     }
 
     fn start(mut self) -> Turn
-        ensures { Turns self (core_step self.limits self.played Start) result }
+        ensures { Turns self (core_step self.world self.limits self.played Start) result }
     {
         match self.monitor.start() {
             Ok(_) => self.stepped(),
@@ -211,7 +213,7 @@ impl Player {
     }
 
     fn finish(mut self, alloc: Global, moment: u64) -> Result<Turn, NoMemory>
-        ensures { IfOk result (Turns self (finish_step self.limits self.played moment
+        ensures { IfOk result (Turns self (finish_step self.world self.limits self.played moment
             (named_of (running_of (past_of self.played.journal))))) }
     {
         let Some(request) = self.monitor.running() else {
@@ -228,7 +230,7 @@ impl Player {
     }
 
     fn take(mut self, session: u32) -> Turn
-        ensures { Turns self (core_step self.limits self.played (Take session)) result }
+        ensures { Turns self (core_step self.world self.limits self.played (Take session)) result }
     {
         match self.monitor.take(session) {
             Ok(_) => self.stepped(),
@@ -237,7 +239,7 @@ impl Player {
     }
 
     fn end(mut self, session: u32) -> Turn
-        ensures { Turns self (core_step self.limits self.played (End session)) result }
+        ensures { Turns self (core_step self.world self.limits self.played (End session)) result }
     {
         match self.monitor.end(session) {
             Ok(()) => self.stepped(),
@@ -246,7 +248,7 @@ impl Player {
     }
 
     fn drop_session(mut self, session: u32, cause: Cause) -> Turn
-        ensures { Turns self (core_step self.limits self.played (Drop session cause)) result }
+        ensures { Turns self (core_step self.world self.limits self.played (Drop session cause)) result }
     {
         match self.monitor.drop_session(session, cause) {
             Ok(()) => self.stepped(),
@@ -255,7 +257,7 @@ impl Player {
     }
 
     fn ordered(self, alloc: Global, order: Order, line: &[u8]) -> Result<Turn, NoMemory>
-        ensures { IfOk result (Turns self (ordered self.limits self.played line.now (Some order))) }
+        ensures { IfOk result (Turns self (ordered self.world self.limits self.played line.now (Some order))) }
     {
         match order {
             Order::Open => self.open(alloc),
@@ -272,7 +274,7 @@ impl Player {
 
     /// Plays a line.
     pub fn line(self, alloc: Global, line: &[u8]) -> Result<Turn, NoMemory>
-        ensures { IfOk result (Turns self (line_step self.limits self.played line.now)) }
+        ensures { IfOk result (Turns self (line_step self.world self.limits self.played line.now)) }
     {
         if is_skipped(line) {
             return Ok(self.stepped());

@@ -13,7 +13,7 @@ use crate::endings::{PlayEnd, Refused};
 use crate::lines::first_line;
 use crate::player::{Player, Turn};
 use qm_base::NoMemory;
-use qm_core::{EntryList, Limits};
+use qm_core::{EntryList, Limits, World};
 use qm_history::{HistoryFault, write_history};
 use qm_link::{Sink, SinkFailed};
 use std::alloc::Global;
@@ -34,7 +34,7 @@ fn told_number(number: u64) -> u32
 }
 
 fn run(alloc: Global, player: Player, script: &[u8]) -> Result<Finished, NoMemory>
-    ensures { IfOk result (Finishes (played_from player.limits 1 player.played (lines_of script.now))) }
+    ensures { IfOk result (Finishes (played_from player.world player.limits 1 player.played (lines_of script.now))) }
 {
     let mut player = player;
     let mut rest = script;
@@ -98,25 +98,36 @@ fn put_transcript<S: Sink>(
     }
 }
 
-fn replayed(alloc: Global, limits: Limits, script: &[u8]) -> Result<Finished, NoMemory>
+fn replayed(
+    alloc: Global,
+    world: World,
+    limits: Limits,
+    script: &[u8],
+) -> Result<Finished, NoMemory>
     requires some { 1 ≤ limits.entries }
     requires few { limits.entries ≤ MOST_ENTRIES }
     requires short { limits.text ≤ MOST_TEXT }
-    ensures { IfOk result (Finishes (played_of limits script.now)) }
+    ensures { IfOk result (Finishes (played_of world limits script.now)) }
 {
-    let player = Player::new(alloc, limits)?;
+    let player = Player::new(alloc, world, limits)?;
     run(alloc, player, script)
 }
 
-/// Plays a script, and puts its transcript into the sink: the text of the journal and the closing
-/// line. `SinkFault` comes exactly where the sink's count of faults rises.
-pub fn play<S: Sink>(alloc: Global, limits: Limits, script: &[u8], sink: &mut S) -> PlayEnd
+/// Plays a script in a world, and puts its transcript into the sink: the text of the journal and
+/// the closing line. `SinkFault` comes exactly where the sink's count of faults rises.
+pub fn play<S: Sink>(
+    alloc: Global,
+    world: World,
+    limits: Limits,
+    script: &[u8],
+    sink: &mut S,
+) -> PlayEnd
     requires some { 1 ≤ limits.entries }
     requires few { limits.entries ≤ MOST_ENTRIES }
     requires short { limits.text ≤ MOST_TEXT }
-    ensures { Plays (played_of limits script.now) (sunk S.contents S.faults sink.old sink.new) result }
+    ensures { Plays (played_of world limits script.now) (sunk S.contents S.faults sink.old sink.new) result }
 {
-    match replayed(alloc, limits, script) {
+    match replayed(alloc, world, limits, script) {
         Ok(finished) => {
             match put_transcript(alloc, finished.player.journal(), finished.refused, sink) {
                 Ok(()) => end_of(finished.refused),

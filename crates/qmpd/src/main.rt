@@ -1,18 +1,12 @@
 //! qmpd: a monitor server that speaks the QEMU Machine Protocol.
 #![tactic(auto)]
 
-mod check;
-mod defines;
-mod offline;
-mod outside;
-mod refusal;
-mod rules;
 #[cfg(test)]
-mod tests;
-mod words;
+mod edge;
+mod outside;
 
-use offline::run_offline;
 use outside::{FileLibrary, OutSink};
+use qm_offline::run_offline;
 use std::process::ExitCode;
 use std::{env, io};
 

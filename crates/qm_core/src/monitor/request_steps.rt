@@ -16,6 +16,7 @@ use crate::monitor::Monitor;
 use crate::offers::{Offer, Owners};
 use crate::replies;
 use crate::requests::{Admitted, Request, RequestName, Started};
+use crate::world::World;
 use qm_base::{NoMemory, Shared, Text};
 use qm_caps::{Lane, bound};
 use qm_json::Json;
@@ -29,13 +30,13 @@ struct Answer {
     opens_commands: bool,
 }
 
-fn answer_to(alloc: Global, request: &Request) -> Result<Answer, NoMemory>
-    ensures reply { IfOk result (λ answer. answer.reply ≡ reply_to request.now) }
-    ensures line { IfOk result (λ answer. answer.line ≡ printed (reply_to request.now)) }
+fn answer_to(alloc: Global, world: &World, request: &Request) -> Result<Answer, NoMemory>
+    ensures reply { IfOk result (λ answer. answer.reply ≡ reply_to world.now request.now) }
+    ensures line { IfOk result (λ answer. answer.line ≡ printed (reply_to world.now request.now)) }
     ensures mode { IfOk result (λ answer. answer.opens_commands
-        ≡ (negotiates (Some request.now) && is_return (reply_to request.now))) }
+        ≡ (negotiates (Some request.now) && is_return (reply_to world.now request.now))) }
 {
-    let reply = replies::reply(alloc, request)?;
+    let reply = replies::reply(alloc, world, request)?;
     let line = line(alloc, &reply)?;
     let opens_commands = replies::negotiates(request) && replies::is_return(&reply);
     Ok(Answer {
@@ -195,7 +196,7 @@ impl Monitor {
             reply,
             line,
             opens_commands,
-        } = answer_to(alloc, request)?;
+        } = answer_to(alloc, &self.world, request)?;
         let moment = moment.max(self.last_moment);
         let bytes = self.finish_room(session, number, &reply, moment)?;
         self.session.answer(line, opens_commands)?;

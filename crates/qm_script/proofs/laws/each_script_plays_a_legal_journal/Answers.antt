@@ -5,7 +5,7 @@ use Rattle.qm_script.proofs.LegalPlays.{script_legal}
 use Rattle.qm_script.proofs.laws.each_script_plays_a_legal_journal.Goals as goal
 
 pub returns-clause-legal : goal.returns-clause-legal
-returns-clause-legal c = λ limits script. script_legal limits script
+returns-clause-legal c = λ world limits script. script_legal world limits script
 
 pub returns-clause-begins : goal.returns-clause-begins
-returns-clause-begins c = λ limits s script. taken_first s (past_of (journal_of limits script)) (script_legal limits script)
+returns-clause-begins c = λ world limits s script. taken_first s (past_of (journal_of world limits script)) (script_legal world limits script).ordered

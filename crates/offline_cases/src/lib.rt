@@ -1,0 +1,5 @@
+//! Cases of command lines, over public calls alone.
+#![tactic(auto)]
+
+#[cfg(test)]
+mod tests;

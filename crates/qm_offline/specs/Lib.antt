@@ -1,0 +1,7 @@
+pub mod Answers
+pub mod Causes
+pub mod Loading
+pub mod Output
+pub mod Refusals
+pub mod Rules
+pub mod Words

@@ -1,0 +1,157 @@
+-- What the program puts out, and its status, for words and what stands outside (this project's own rule).
+use Rattle.std.specs.Prelude.{ℕ, Bool, true, false, List, [], ◌++◌, length, position, codes, Option, Some, None, option_map, unwrap_or, Result, Ok, Err}
+use Rattle.std.specs.{Fmt.decimal, Option.option_and_then}
+use Rattle.qapi_load.specs.{Files.NamedText, Files.text_of, declared.fault.LoadFault.LoadFault}
+use Rattle.qapi_rules.specs.declared.fault.CheckFault.{CheckFault}
+use Rattle.qapi_types.specs.declared.{kind.Kind.Kind, parts.Parts.Parts}
+use Rattle.qapi_types.specs.declared.kind.Kind.TheVariants as kind
+use Rattle.qm_json.specs.Printing.{printed}
+use Rattle.qapi_mask.specs.Introspection.{introspection_of}
+use Rattle.qm_core.specs.declared.{TheConstants.MOST_TEXT, entries.Entry.Entry, monitor.Limits.Limits, world.World.World}
+use Rattle.qm_script.specs.{Playing.Ended, Playing.played_of, Playing.transcript_text_of, Endings.end_of, declared.endings.PlayEnd.PlayEnd}
+use Rattle.qm_script.specs.declared.endings.PlayEnd.TheVariants as end
+use Rattle.qapi_check.specs.{Checking.table_of, declared.loading.SchemaFault.SchemaFault}
+use Rattle.qm_offline.specs.declared.refusal.Refusal.{Refusal}
+use Rattle.qapi_check.specs.declared.loading.SchemaFault.TheVariants.{Load, Check as Broken}
+use Rattle.qm_offline.specs.declared.refusal.Refusal.TheVariants as refusal
+use Rattle.qm_offline.specs.{Rules.load_word, Rules.check_word, Rules.name_printed}
+use Rattle.qm_offline.specs.declared.loading.Command.{Command, TheVariants.Check, TheVariants.Introspect, TheVariants.Replay}
+use Rattle.qm_offline.specs.Words.{Words, names_defined}
+
+pub record Output : Type 0 where
+  pub status : ℕ
+  pub bytes : List ℕ
+
+-- the words are outside the grammar
+abbrev pub usage : Output
+usage = record {
+  status = 2;
+  bytes = codes "error: usage: qmpd check|introspect|replay SCRIPT|serve SOCKET|drill N [--schema F] [--bind F] [--define A,B] [--journal N] [--workers N]\n";
+}
+
+-- the line that names a file whose reading failed
+abbrev pub cannot_read : List ℕ → List ℕ
+cannot_read name = codes "error: cannot read " ++ name ++ codes "\n"
+
+-- a name behind the word of a rule; it may be empty
+abbrev pub behind : Option (List ℕ) → List ℕ
+behind None = []
+behind (Some name) = codes " " ++ name
+
+-- the line of a schema's fault
+abbrev pub schema_line : List ℕ → ℕ → List ℕ → Option (List ℕ) → List ℕ
+schema_line file line word name = codes "error: schema " ++ file ++ codes " line " ++ decimal line ++ codes ": " ++ word ++ behind name ++ codes "\n"
+
+abbrev pub load_line : LoadFault → List ℕ
+load_line fault = schema_line fault.file fault.line (load_word fault.rule) (name_printed fault)
+
+abbrev pub check_line : CheckFault → List ℕ
+check_line fault = schema_line fault.file fault.line (check_word fault.rule) (Some fault.name)
+
+abbrev pub fault_line : SchemaFault → List ℕ
+fault_line (Load fault) = load_line fault
+fault_line (Broken fault) = check_line fault
+
+-- what is put out for a command line that is not run; nothing, where memory was wanting
+abbrev pub refusal_output : Refusal → Output
+refusal_output refusal.Words = usage
+refusal_output (refusal.Schema fault) = record { status = 3; bytes = load_line fault }
+refusal_output (refusal.Check fault) = record { status = 3; bytes = check_line fault }
+refusal_output (refusal.Library name) = record { status = 6; bytes = cannot_read name }
+refusal_output refusal.Memory = record { status = 1; bytes = [] }
+
+abbrev pub is_str : Kind → Bool
+is_str kind.Str = true
+is_str other = false
+
+-- the types that definitions name stand before the built-in ones, of which the first is that of strings
+abbrev pub named_types : List Kind → ℕ
+named_types kinds = unwrap_or (position is_str kinds) (length kinds)
+
+-- the line of a schema without a fault
+abbrev pub ok_line : Parts → List ℕ
+ok_line parts =
+    codes "ok " ++ decimal (length parts.commands) ++ codes " commands, " ++ decimal (length parts.events) ++ codes " events, "
+    ++ decimal (named_types parts.kinds) ++ codes " types\n"
+
+-- the line of what a client is told of a schema
+abbrev pub introspection_line : Parts → List ℕ
+introspection_line parts = printed (introspection_of parts) ++ codes "\n"
+
+-- there is no such script
+abbrev pub missing : List ℕ → Output
+missing name = record { status = 5; bytes = codes "error: script " ++ name ++ codes ": no-file\n" }
+
+-- the status of an end
+abbrev pub end_status_of : PlayEnd → ℕ
+end_status_of end.Done = 0
+end_status_of (end.BadLine line) = 5
+end_status_of (end.WrongStep line word) = 5
+end_status_of (end.Full line) = 9
+end_status_of end.SinkFault = 7
+end_status_of end.Memory = 1
+
+abbrev pub replayed : Ended → Output
+replayed ended = record { status = end_status_of (end_of ended.refused); bytes = transcript_text_of ended }
+
+-- the limits of a journal of so many entries
+abbrev pub limits_of : ℕ → Limits
+limits_of entries = record { entries = entries; text = MOST_TEXT }
+
+-- what a schema lets a monitor serve
+abbrev pub world_of : Parts → World
+world_of parts = record { schema = parts; introspection = introspection_of parts }
+
+-- what is played of a script over a schema
+abbrev pub play_of : Parts → ℕ → List ℕ → Ended
+play_of parts entries script = played_of (world_of parts) (limits_of entries) script
+
+abbrev pub replay_output : List ℕ → Option Ended → Output
+replay_output script None = missing script
+replay_output script (Some ended) = replayed ended
+
+-- what stands outside: what loading and checking the schema answers, and the files of which one is the script
+pub record Outside : Type 0 where
+  pub schema : Result Parts SchemaFault
+  pub files : List NamedText
+
+-- what is played of a command's script; nothing, where it has none or there is none of that name
+abbrev pub play_from : Parts → List NamedText → ℕ → Command → Option Ended
+play_from parts files entries (Replay script) = option_map (play_of parts entries) (text_of script files)
+play_from parts files entries command = None
+
+abbrev pub play_over : Words → List NamedText → Result Parts SchemaFault → Option Ended
+play_over w files (Ok parts) = play_from parts files w.entries w.command
+play_over w files (Err fault) = None
+
+-- what is played for words over what stands outside, if anything is
+abbrev pub play_for : Option Words → Outside → Option Ended
+play_for words outside = option_and_then (λ w. play_over w outside.files outside.schema) words
+
+-- the journal of that play
+abbrev pub journal_for : Option Words → Outside → List Entry
+journal_for words outside = unwrap_or (option_map (λ ended. ended.played.journal) (play_for words outside)) []
+
+abbrev pub command_output : Parts → List NamedText → ℕ → Command → Output
+command_output parts files entries Check = record { status = 0; bytes = ok_line parts }
+command_output parts files entries Introspect = record { status = 0; bytes = introspection_line parts }
+command_output parts files entries (Replay script) = replay_output script (option_map (play_of parts entries) (text_of script files))
+
+-- a schema that is refused ends the run, whatever the command
+abbrev pub schema_output : Words → List NamedText → Result Parts SchemaFault → Output
+schema_output w files (Ok parts) = command_output parts files w.entries w.command
+schema_output w files (Err fault) = record { status = 3; bytes = fault_line fault }
+
+-- the status and the bytes for words over what stands outside
+abbrev pub output_over : Option Words → Outside → Output
+output_over None outside = usage
+output_over (Some w) outside = schema_output w outside.files outside.schema
+
+-- what loading and checking the schema of a command line answers, over files
+abbrev pub schema_of : Words → List NamedText → Result Parts SchemaFault
+schema_of w files = table_of files w.schema (names_defined w.define)
+
+-- the status and the bytes for words over files
+abbrev pub output_of : Option Words → List NamedText → Output
+output_of None files = usage
+output_of (Some w) files = schema_output w files (schema_of w files)

@@ -1,5 +1,0 @@
-use Rattle.qmpd.proofs.WordLemmas.{many_refused}
-use Rattle.qmpd.proofs.words.Given.put_positional.Goals as goal
-
-pub returns-in_default : goal.returns-in_default
-returns-in_default c = many_refused _ _ _ c.in_default.len_at_least

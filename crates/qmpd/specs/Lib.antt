@@ -1,6 +1,0 @@
-pub mod Answers
-pub mod Causes
-pub mod Output
-pub mod Refusals
-pub mod Rules
-pub mod Words
