@@ -1,5 +1,8 @@
 //! Schemas of texts. The types of each are numbered from 6 on in the order of their definitions.
 
+ghost use Rattle.std.specs.Prelude.{IfOk};
+ghost use Rattle.qapi_types.specs.Prelude.{HasPrelude};
+
 use qapi_check::load_schema;
 use qapi_load::{FileList, LibraryFile, MemoryLibrary};
 use qapi_types::Schema;
@@ -103,7 +106,9 @@ fn library(alloc: Global, text: &str) -> Result<MemoryLibrary, NoMemory> {
 }
 
 /// The schema of the text.
-pub fn schema_of(alloc: Global, text: &str) -> Result<Schema, Fail> {
+pub fn schema_of(alloc: Global, text: &str) -> Result<Schema, Fail>
+    ensures { IfOk result HasPrelude }
+{
     let mut library = library(alloc, text)?;
     match load_schema(alloc, &mut library, Some(b"main"), &[]) {
         Ok(schema) => Ok(schema),
