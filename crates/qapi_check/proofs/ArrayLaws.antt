@@ -21,10 +21,16 @@ same-itself (implicit.Array e) = (Decides-eqb e e).1 refl
 same-itself (implicit.Members at) = (Decides-eqb at at).1 refl
 same-itself implicit.Empty = refl
 
-same-array : (e : ℕ) (x : ImplicitType) → same (implicit.Array e) x ≡ true → x ≡ implicit.Array e
-same-array e (implicit.Array b) h = ap (λ (k : ℕ). implicit.Array k) (sym ((Decides-eqb e b).0 h))
-same-array e (implicit.Members at) h = cc
-same-array e implicit.Empty h = cc
+same-one : (x y : ImplicitType) → same x y ≡ true → y ≡ x
+same-one (implicit.Array a) (implicit.Array b) h = ap (λ (k : ℕ). implicit.Array k) (sym ((Decides-eqb a b).0 h))
+same-one (implicit.Members a) (implicit.Members b) h = ap (λ (k : ℕ). implicit.Members k) (sym ((Decides-eqb a b).0 h))
+same-one implicit.Empty implicit.Empty h = refl
+same-one (implicit.Array a) (implicit.Members b) h = cc
+same-one (implicit.Array a) implicit.Empty h = cc
+same-one (implicit.Members a) (implicit.Array b) h = cc
+same-one (implicit.Members a) implicit.Empty h = cc
+same-one implicit.Empty (implicit.Array b) h = cc
+same-one implicit.Empty (implicit.Members b) h = cc
 
 sooner : (a b : Bool) → a ≡ true → (a || b) ≡ true
 sooner true b h = refl
@@ -52,7 +58,7 @@ all-kept : (x : ImplicitType) (known ones : List ImplicitType) → list_any (sam
 all-kept x known [] h = h
 all-kept x known (y ∷ ones) h = all-kept x (with_implicit known y) ones (kept x y known h)
 
-gathered : (x : ImplicitType) (known ones : List ImplicitType) → In x ones → list_any (same x) (fold with_implicit known ones) ≡ true
+pub gathered : (x : ImplicitType) (known ones : List ImplicitType) → In x ones → list_any (same x) (fold with_implicit known ones) ≡ true
 gathered x known [] h = absurd h
 gathered x known (y ∷ ones) (inl e) = all-kept x (with_implicit known y) ones (subst (λ z. list_any (same x) (with_implicit known z) ≡ true) e (new x known))
 gathered x known (y ∷ ones) (inr h) = gathered x (with_implicit known y) ones h
@@ -72,17 +78,23 @@ needed defs d v i j a =
     by_part at = variants-part d (λ vs. In v vs → In one (flat_map (implied_by_part (types_of defs) d.sort at) d.parts)) (λ k. absurd k) (λ vs p k.
         in-flat_map (implied_by_part (types_of defs) d.sort at) (part.Variants vs) one d.parts p (in-flat_map (λ (v : Variant). implied (types_of defs) v.of) v one vs k this)) j
 
+-- the type of the number of a type without a name is that type, if it is needed
+pub kind-needed : (defs : List Definition) (one : ImplicitType) → list_any (same one) (implicit_types_of defs) ≡ true →
+    kind_of (kinds_of (numbering_of defs) defs) (number_of_implicit (numbering_of defs) one) ≡ implicit_kind (numbering_of defs) defs one
+kind-needed defs one h =
+    let p : (p : ℕ) × (position (same one) (implicit_types_of defs) ≡ Some p) = found (same one) (implicit_types_of defs) h in
+    let x : (x : ImplicitType) × (slice_get (implicit_types_of defs) p.0 ≡ Some x) × (same one x ≡ true) = at-found (same one) p.0 (implicit_types_of defs) p.1 in
+    let number : number_of_implicit (numbering_of defs) one ≡ length (types_of defs) + 16 + p.0 =
+    ap (λ (o : Option ℕ). unwrap_or (option_map (λ q. length (type_names (types_of defs)) + q) o) 0) p.1
+    ∙ ap (λ (m : ℕ). m + p.0) (names-long (types_of defs)) in
+    ap (λ (t : ℕ). kind_of (kinds_of (numbering_of defs) defs) t) number
+    ∙ kind-implicit (numbering_of defs) defs p.0 x.0 x.1
+    ∙ ap (implicit_kind (numbering_of defs) defs) (same-one one x.0 x.2)
+
 -- the type of its number is that array
 pub array-kind : (defs : List Definition) (d : Definition) (v : Variant) → In d defs → In v (variants_of d) → v.of.is_array ≡ true →
     kind_of (kinds_of (numbering_of defs) defs) (type_number (numbering_of defs) v.of) ≡ kinds.Array (number_of_name (types_of defs) v.of.name)
 array-kind defs d v i j a =
     let e : ℕ = number_of_name (types_of defs) v.of.name in
-    let p : (p : ℕ) × (position (same (implicit.Array e)) (implicit_types_of defs) ≡ Some p) = found (same (implicit.Array e)) (implicit_types_of defs) (needed defs d v i j a) in
-    let x : (x : ImplicitType) × (slice_get (implicit_types_of defs) p.0 ≡ Some x) × (same (implicit.Array e) x ≡ true) = at-found (same (implicit.Array e)) p.0 (implicit_types_of defs) p.1 in
-    let number : type_number (numbering_of defs) v.of ≡ length (types_of defs) + 16 + p.0 =
-    ap (λ b. cond b (number_of_implicit (numbering_of defs) (implicit.Array e)) e) a
-    ∙ ap (λ (o : Option ℕ). unwrap_or (option_map (λ q. length (type_names (types_of defs)) + q) o) 0) p.1
-    ∙ ap (λ (m : ℕ). m + p.0) (names-long (types_of defs)) in
-    ap (λ (t : ℕ). kind_of (kinds_of (numbering_of defs) defs) t) number
-    ∙ kind-implicit (numbering_of defs) defs p.0 x.0 x.1
-    ∙ ap (implicit_kind (numbering_of defs) defs) (same-array e x.0 x.2)
+    ap (λ b. kind_of (kinds_of (numbering_of defs) defs) (cond b (number_of_implicit (numbering_of defs) (implicit.Array e)) e)) a
+    ∙ kind-needed defs (implicit.Array e) (needed defs d v i j a)

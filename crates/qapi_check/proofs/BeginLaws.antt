@@ -1,20 +1,15 @@
 -- A table begins with what stands first among its definitions.
-use Rattle.std.proofs.Common.{◌≡◌, ◌+◌, ℕ, suc, Bool, List, [], ◌∷◌, ◌++◌, length, map, Option, Some, None, Result, IfOk, sym, ap, ◌∙◌, subst, arith, append_assoc}
+use Rattle.std.proofs.Common.{◌≡◌, ◌+◌, ℕ, suc, Bool, List, [], ◌∷◌, ◌++◌, length, map, ap, ◌∙◌, arith, append_assoc}
 use Rattle.std.specs.List.{enumerate_from, filter, flat_map}
 use Rattle.std.proofs.lemmas.{Grind.flat_map-append, List.map-append, List.Elements.filter-append}
-use Rattle.qapi_types.specs.declared.{kind.Kind.Kind, parts.Parts.Parts}
+use Rattle.qapi_types.specs.declared.kind.Kind.{Kind}
 use Rattle.qapi_define.specs.declared.definition.Definition.{Definition}
-use Rattle.qapi_load.specs.declared.source.Source.{Source}
-use Rattle.qapi_rules.specs.declared.fault.CheckFault.{CheckFault}
 use Rattle.qapi_number.specs.declared.numbering.Numbering.{Numbering}
 use Rattle.qapi_number.specs.Kinds.{builtin_kinds, implicit_kind, kind_defined}
-use Rattle.qapi_number.specs.{Numbering.numbering_of, Prelude.prelude, Prelude.without_prelude_names}
+use Rattle.qapi_number.specs.Numbering.{numbering_of}
 use Rattle.qapi_number.specs.PartsOf.{calls_of, command_in, event_in, is_call_sort, parts_of}
 use Rattle.qapi_number.specs.TypeNames.{is_type_sort, types_of}
-use Rattle.qapi_define.specs.Definitions.{definitions_of}
-use Rattle.qapi_check.specs.Beginning.{BeginsWith, BeginsWithPrelude, first_kinds}
-use Rattle.qapi_check.specs.Checking.{checked_sources, first_fault, table_unless}
-use Rattle.qapi_check.specs.Passes.{all_definitions, numbered}
+use Rattle.qapi_check.specs.Beginning.{BeginsWith, first_kinds}
 
 enumerate-append : {A : Type 0} (n : ℕ) (xs ys : List A) → enumerate_from n (xs ++ ys) ≡ enumerate_from n xs ++ enumerate_from (n + length xs) ys
 enumerate-append n [] ys = let e : n ≡ n + 0 = omega arith in ap (λ (k : ℕ). enumerate_from k ys) e
@@ -74,15 +69,3 @@ module _ (xs ys : List Definition) where
             ∙ ap (λ l. l ++ rest) (append_assoc (first_kinds all xs) more builtin_kinds)
             ∙ append_assoc (first_kinds all xs) (more ++ builtin_kinds) rest;
       }
-
-with-prelude : (defines : List (List ℕ)) (sources : List Source) → BeginsWithPrelude (numbered (all_definitions defines sources))
-unfolding numbered all_definitions
-with-prelude defines sources = (without_prelude_names (definitions_of defines sources), begins prelude (without_prelude_names (definitions_of defines sources)))
-
-unless-begins : (fault : Option CheckFault) (definitions : List Definition) → BeginsWithPrelude (numbered definitions) → IfOk (table_unless fault definitions) BeginsWithPrelude
-unless-begins None definitions h = h
-unless-begins (Some fault) definitions h = tt
-
--- the table of expressions begins with the prelude
-pub table_begins : (defines : List (List ℕ)) (sources : List Source) (answer : Result Parts CheckFault) → answer ≡ checked_sources defines sources → IfOk answer BeginsWithPrelude
-table_begins defines sources answer e = subst (λ (r : Result Parts CheckFault). IfOk r BeginsWithPrelude) (sym e) (unless-begins (first_fault (all_definitions defines sources)) (all_definitions defines sources) (with-prelude defines sources))

@@ -16,3 +16,4 @@ pub mod GraphLaws
 pub mod ApartLaws
 pub mod UnionLaws
 pub mod GoodLaws
+mod PreludeLaws

@@ -2,6 +2,7 @@ ghost use Rattle.std.specs.Prelude.{◌≡◌, None, IfOk};
 ghost use Rattle.std.specs.Option.{option_map};
 ghost use Rattle.qapi_rules.specs.Blames.{told};
 ghost use Rattle.qapi_check.specs.Checking.{IsChecked, checked as checked_of, checked_sources as sources_checked, memory_fault, table_unless};
+ghost use Rattle.qapi_types.specs.Prelude.{HasPrelude};
 ghost use Rattle.qapi_check.specs.Beginning.{BeginsWithPrelude};
 ghost use Rattle.qapi_check.specs.Lawful.{AreLawful};
 ghost use Rattle.qapi_check.specs.Passes as Steps;
@@ -146,6 +147,7 @@ pub fn check_sources(
 ) -> Result<Schema, CheckFault>
     ensures value { IsChecked result → result ≡ sources_checked defines.now sources.now }
     ensures prelude { IfOk result BeginsWithPrelude }
+    ensures has_prelude { IfOk result HasPrelude }
 {
     match checked_sources(alloc, sources, defines) {
         Ok(answer) => answer,
@@ -164,6 +166,7 @@ pub fn check_sources(
 pub fn check(alloc: Global, sources: &SourceList, defines: &Names) -> Result<Schema, CheckFault>
     ensures value { IsChecked result → result ≡ sources_checked defines.now sources.now }
     ensures prelude { IfOk result BeginsWithPrelude }
+    ensures has_prelude { IfOk result HasPrelude }
 {
     check_sources(alloc, sources.as_slice(), defines.as_slice())
 }

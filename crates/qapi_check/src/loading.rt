@@ -1,6 +1,8 @@
-ghost use Rattle.std.specs.Prelude.{◌≡◌, IfErr, IsSome};
+ghost use Rattle.std.specs.Prelude.{◌≡◌, IfErr, IfOk, IsSome};
 ghost use Rattle.std.specs.Option.{option_copied};
 ghost use Rattle.qapi_load.specs.Causes.{HasCause as HasLoadCause};
+ghost use Rattle.qapi_types.specs.Prelude.{HasPrelude};
+ghost use Rattle.qapi_check.specs.Beginning.{BeginsWithPrelude};
 ghost use Rattle.qapi_check.specs.Checking.{HasCause, IsUnread, SchemaFrom, SourcesFrom};
 
 use crate::checking::check_sources;
@@ -52,6 +54,8 @@ pub fn load_schema<L: Library>(
     defines: &[Text],
 ) -> Result<Schema, SchemaFault>
     ensures given { SchemaFrom (L.files library.old) (option_copied main.entry) defines.now result }
+    ensures prelude { IfOk result BeginsWithPrelude }
+    ensures has_prelude { IfOk result HasPrelude }
     ensures asked { IsUnread result → IsSome (option_copied main.entry) }
     ensures same { L.files library.new ≡ L.files library.old }
     ensures cause { HasCause result

@@ -7,7 +7,8 @@ use Rattle.qapi_types.specs.declared.{kind.Kind.Kind, parts.Parts.Parts}
 use Rattle.qapi_types.specs.{Goodness.IsGood, Goodness.RefersBelow, Types.kind_of}
 use Rattle.qm_admit.specs.Fitting.{Among}
 use Rattle.qapi_mask.specs.{Entries.refs_of, Naming.base_of, Naming.element_of, Naming.first_refs, Naming.inner_in, Naming.inner_of, Naming.is_numbered, Naming.listed_of, Naming.numbered_of, Naming.refs_shown, Naming.shown_of, Orders.AreBelow, Orders.IsWalked, Orders.with_all, Orders.with_new}
-use Rattle.qapi_mask.specs.{Prelude.HasPrelude, Prelude.empty_of, Tables.IsMarked, Tables.Tells}
+use Rattle.qapi_mask.specs.{Tables.IsMarked, Tables.Tells}
+use Rattle.qapi_types.specs.Prelude.{HasPrelude, empty_of}
 use Rattle.qapi_mask.proofs.{ListingLaws.taken, ListingLaws.told-map, OrderLaws.all-append, OrderLaws.few, Placing.has-among, Sound.IsSound, Sound.sound}
 use Rattle.qapi_mask.proofs.StandingLaws.{base-below, element-below}
 use Rattle.qapi_mask.proofs.NamingLaws.{first-below, listed-walks, numbered-few, refs-below, shown-below}

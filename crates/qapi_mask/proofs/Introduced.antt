@@ -17,7 +17,7 @@ use Rattle.qapi_mask.specs.Bounds.{IsInBounds}
 use Rattle.qapi_mask.specs.Calls.{Call, Command, Event, calls_of}
 use Rattle.qapi_mask.specs.Introspection.{call_json, entry_at, type_json, introspection_of}
 use Rattle.qapi_mask.specs.Naming.{argument_type, builtin_at, builtin_of, call_refs, element_of, is_listed, is_text, listed_of, mask_in, mask_of, own_name_in, shown_of}
-use Rattle.qapi_mask.specs.Prelude.{HasPrelude, empty_of}
+use Rattle.qapi_types.specs.Prelude.{HasPrelude, empty_of}
 use Rattle.qapi_mask.specs.Reading.{Named, Reads, entry_in, read_item, command_from, commands_in}
 use Rattle.qapi_mask.specs.Told.{command_told, entry_told}
 use Rattle.qapi_mask.proofs.Dealing.{commands_only, commands-told}

@@ -15,7 +15,7 @@ use Rattle.qm_admit.specs.Fitting.{Among}
 use Rattle.qapi_mask.specs.Orders.{AreBelow, IsClosed, Walks}
 use Rattle.qapi_mask.specs.Entries.{Builtin, Array, entry_of, refs_of}
 use Rattle.qapi_mask.specs.Naming.{builtin_of, element_of, place_of, is_text, base_in, base_of, is_base, shown_in, shown_of, first_refs, refs_shown, listed_of, is_listed, inner_in, inner_of, is_numbered, numbered_of, own_name_in, own_name_of, mask_in, mask_of}
-use Rattle.qapi_mask.specs.Prelude.{empty_of}
+use Rattle.qapi_types.specs.Prelude.{empty_of}
 use Rattle.qapi_mask.proofs.Lists.{among-map, among-source}
 use Rattle.qapi_mask.proofs.OrderLaws.{walks, closed, apart-all, nothing-apart, readings-below, has-all, few-below}
 use Rattle.qapi_mask.proofs.Placing.{place-below, place-passes, has-below, place-injective, among-has, has-among, among-filter, filter-among}

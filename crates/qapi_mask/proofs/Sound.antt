@@ -13,7 +13,7 @@ use Rattle.qm_admit.specs.Tags.{Case, Tag, tag_of, cases_from}
 use Rattle.qapi_mask.specs.Calls.{Call, Command, Event, call_at, one_or_none, calls_before, calls_of}
 use Rattle.qapi_mask.specs.Entries.{refs_of, refs_of_tag}
 use Rattle.qapi_mask.specs.Naming.{builtin_of, element_of, is_text, builtin_at, argument_type, call_refs, first_refs}
-use Rattle.qapi_mask.specs.Prelude.{HasPrelude, empty_of, no_command}
+use Rattle.qapi_types.specs.Prelude.{HasPrelude, empty_of, no_command}
 use Rattle.qapi_mask.proofs.Apart.{apart, case-branch}
 use Rattle.qapi_mask.proofs.Elements.{all-among, all-index, among-append, among-flat}
 use Rattle.qapi_mask.proofs.Lists.{among-source, found-among}

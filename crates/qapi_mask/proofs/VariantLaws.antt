@@ -11,7 +11,7 @@ use Rattle.qapi_types.specs.declared.kind.Kind.TheVariants as kinds
 use Rattle.qapi_types.specs.{declared.parts.Parts.Parts, Goodness.IsGood, Goodness.RefersBelow}
 use Rattle.qm_admit.specs.Tags.{Case, Tag, branch_at, cases_from, tag_of}
 use Rattle.qapi_mask.specs.{Below.variant_jsons, Entries.refs_of_tag, Entries.tag_entry, Entries.variant_of, Printing.tag_members, Printing.variant_json, Printing.with_text, Printing.with_value}
-use Rattle.qapi_mask.specs.Prelude.{HasPrelude, empty_of}
+use Rattle.qapi_types.specs.Prelude.{HasPrelude, empty_of}
 use Rattle.qapi_mask.proofs.{BuildLaws.all-of, ListingLaws.taken, Lists.among-right, Sound.empty-below, Sound.refs-below, TableLaws.cases-long}
 
 jsons-end : (name_of : ℕ → List ℕ) (values : List ValueDef) (types : List ℕ) (v : ValueDef) (t : ℕ) → length values ≡ length types →

@@ -3,7 +3,8 @@ use Rattle.std.specs.Prelude.{ℕ, Bool, true, false, List, [], ◌∷◌, ◌++
 use Rattle.qm_json.specs.declared.value.{Json.Json, Member.Member}
 use Rattle.qm_json.specs.declared.value.Json.TheVariants as json
 use Rattle.qapi_types.specs.{declared.parts.Parts.Parts, Types.kind_of}
-use Rattle.qapi_mask.specs.{Calls.Call, Calls.Command, Calls.Event, Calls.calls_of, Entries.Entry, Entries.entry_of, Naming.argument_type, Naming.listed_of, Naming.mask_of, Prelude.empty_of}
+use Rattle.qapi_mask.specs.{Calls.Call, Calls.Command, Calls.Event, Calls.calls_of, Entries.Entry, Entries.entry_of, Naming.argument_type, Naming.listed_of, Naming.mask_of}
+use Rattle.qapi_types.specs.Prelude.{empty_of}
 use Rattle.qapi_mask.specs.Printing.{with_value, with_text, features_members, entry_json}
 
 abbrev pub oob_members : Bool → List Member

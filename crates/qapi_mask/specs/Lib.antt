@@ -6,7 +6,6 @@ pub mod Entries
 pub mod Introspection
 pub mod Naming
 pub mod Orders
-pub mod Prelude
 pub mod Printing
 pub mod Reading
 pub mod Tables

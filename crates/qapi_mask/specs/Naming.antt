@@ -5,7 +5,8 @@ use Rattle.std.specs.{List.flat_map, Str.bytes_eq, Fmt.decimal}
 use Rattle.qapi_types.specs.declared.{kind.Kind.Kind, parts.ArgType.ArgType, parts.ArgType.TheVariants.AnyObject, parts.ArgType.TheVariants.Typed, parts.Parts.Parts}
 use Rattle.qapi_types.specs.declared.kind.Kind.TheVariants as kinds
 use Rattle.qapi_types.specs.{Chains.has, Types.kind_of}
-use Rattle.qapi_mask.specs.{Calls.Call, Calls.Command, Calls.Event, Calls.calls_of, Entries.refs_of, Orders.with_all, Orders.readings, Prelude.empty_of}
+use Rattle.qapi_mask.specs.{Calls.Call, Calls.Command, Calls.Event, Calls.calls_of, Entries.refs_of, Orders.with_all, Orders.readings}
+use Rattle.qapi_types.specs.Prelude.{empty_of}
 
 -- the name of a built-in type; all whole types are one
 abbrev pub builtin_of : Kind → Option (List ℕ)

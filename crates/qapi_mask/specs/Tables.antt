@@ -5,7 +5,7 @@ use Rattle.qapi_types.specs.declared.kind.{Branch.Branch, Kind.Kind}
 use Rattle.qm_admit.specs.Tags.{branch_at}
 use Rattle.qapi_types.specs.{declared.parts.Parts.Parts, Goodness.IsGood}
 use Rattle.qapi_mask.specs.Naming.{place_of, is_base, element_of, listed_of, numbered_of, shown_of}
-use Rattle.qapi_mask.specs.Prelude.{HasPrelude}
+use Rattle.qapi_types.specs.Prelude.{HasPrelude}
 use Rattle.qapi_types.specs.Chains.{has, marked}
 
 -- the list has what the function says of each number below n

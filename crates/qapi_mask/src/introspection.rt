@@ -6,7 +6,7 @@ ghost use Rattle.qapi_mask.specs.Calls.{Command, Event};
 ghost use Rattle.qapi_types.specs.Goodness.{CommandBelow};
 ghost use Rattle.qapi_mask.specs.Introspection.{call_json, introspection_of, oob_members, type_json};
 ghost use Rattle.qapi_mask.specs.Naming.{is_listed, mask_of};
-ghost use Rattle.qapi_mask.specs.Prelude.{HasPrelude};
+ghost use Rattle.qapi_types.specs.Prelude.{HasPrelude};
 
 use crate::calls::{Called, argument_type, calls};
 use crate::entries::{head, put, put_features, put_text};

@@ -11,7 +11,7 @@ ghost use Rattle.qm_admit.specs.Fitting.{Among, Fits};
 ghost use Rattle.qapi_mask.specs.Bounds.{IsInBounds};
 ghost use Rattle.qapi_mask.specs.Introspection.{introspection_of};
 ghost use Rattle.qapi_mask.specs.Naming.{argument_type, is_listed, mask_of};
-ghost use Rattle.qapi_mask.specs.Prelude.{HasPrelude};
+ghost use Rattle.qapi_types.specs.Prelude.{HasPrelude};
 ghost use Rattle.qapi_mask.specs.Reading.{Reads, commands_in, entry_in};
 ghost use Rattle.qapi_mask.specs.Told.{command_told};
 

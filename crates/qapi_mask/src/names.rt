@@ -3,7 +3,7 @@ ghost use Rattle.std.specs.Prelude.{◌≡◌, ◌<◌, ◌++◌, codes, length,
 ghost use Rattle.std.specs.Fmt.{decimal as decimal_of};
 ghost use Rattle.qapi_types.specs.Goodness.{IsGood};
 ghost use Rattle.qapi_mask.specs.Naming.{is_listed, listed_of, mask_of, own_name_of};
-ghost use Rattle.qapi_mask.specs.Prelude.{HasPrelude};
+ghost use Rattle.qapi_types.specs.Prelude.{HasPrelude};
 
 use crate::listing::entry;
 use crate::naming::{Naming, listed, numbered, numbers};

@@ -5,7 +5,7 @@ ghost use Rattle.qapi_types.specs.Goodness.{IsGood, RefersBelow};
 ghost use Rattle.std.specs.Option.{is_some};
 ghost use Rattle.qapi_mask.specs.Naming.{base_of, builtin_of, element_of, first_refs, refs_shown, shown_of, inner_of, is_numbered as is_numbered_of, listed_of};
 ghost use Rattle.qapi_mask.specs.Orders.{with_all, with_new};
-ghost use Rattle.qapi_mask.specs.Prelude.{HasPrelude, empty_of};
+ghost use Rattle.qapi_types.specs.Prelude.{HasPrelude, empty_of};
 ghost use Rattle.qapi_mask.specs.Tables.{Tells, IsMarked, number_in};
 
 use crate::calls::{calls, first_references};

@@ -11,7 +11,7 @@ ghost use Rattle.qapi_mask.specs.Below.{variant_jsons};
 ghost use Rattle.qapi_mask.specs.Entries.{Alternate, Array, Enum, entry_of, tag_entry, value_entry};
 ghost use Rattle.qapi_mask.specs.Introspection.{type_json};
 ghost use Rattle.qapi_mask.specs.Naming.{mask_of};
-ghost use Rattle.qapi_mask.specs.Prelude.{empty_of};
+ghost use Rattle.qapi_types.specs.Prelude.{empty_of};
 ghost use Rattle.qapi_mask.specs.Printing as printed;
 
 use crate::entries::{

@@ -2,5 +2,6 @@ pub mod Chains
 pub mod Choices
 pub mod Goodness
 pub mod Lookups
+pub mod Prelude
 pub mod Sets
 pub mod Types

@@ -1,6 +1,7 @@
 use Rattle.std.proofs.Common.{◌≡◌, ◌++◌, sym, subst, OnOk}
 use Rattle.qapi_types.specs.declared.kind.Kind.{Kind}
-use Rattle.qapi_mask.specs.{Entries.entry_of, Naming.mask_of, Prelude.empty_of, Printing.entry_members}
+use Rattle.qapi_mask.specs.{Entries.entry_of, Naming.mask_of, Printing.entry_members}
+use Rattle.qapi_types.specs.Prelude.{empty_of}
 use Rattle.qapi_mask.proofs.objects.put_parts.Goals as goal
 
 pub returns-in-Str : goal.returns-in-Str

@@ -1,6 +1,7 @@
 use Rattle.std.proofs.Common.{rules, ap, ◌∙◌, ◌++◌, List}
 use Rattle.qm_json.specs.declared.value.Member.{Member}
-use Rattle.qapi_mask.specs.{Naming.mask_of, Prelude.empty_of}
+use Rattle.qapi_mask.specs.{Naming.mask_of}
+use Rattle.qapi_types.specs.Prelude.{empty_of}
 use Rattle.qapi_mask.proofs.VariantLaws.{put-two, tag-told, types-long, variants-within}
 use Rattle.qapi_mask.proofs.objects.put_tag.Goals as goal
 

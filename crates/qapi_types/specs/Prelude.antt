@@ -1,9 +1,9 @@
 -- What stands before each schema, as far as introspection needs it (this project's own rule).
 use Rattle.std.specs.Prelude.{◌≡◌, ◌<◌, ℕ, false, [], length, None}
-use Rattle.qapi_types.specs.declared.{kind.Kind.TheVariants.Any, kind.Kind.TheVariants.Object, parts.CommandDef.CommandDef, parts.Parts.Parts}
-use Rattle.qapi_types.specs.Types.{kind_of}
 use Rattle.std.specs.List.{slice_index_or}
-use Rattle.qapi_types.specs.declared.parts.ArgType.TheVariants.{AnyObject}
+use Rattle.qapi_types.specs.declared.kind.Kind.TheVariants.{Any, Object}
+use Rattle.qapi_types.specs.declared.parts.{ArgType.TheVariants.AnyObject, CommandDef.CommandDef, Parts.Parts}
+use Rattle.qapi_types.specs.Types.{kind_of}
 
 abbrev pub no_command : CommandDef
 no_command = record { name = []; place = 0; arg = AnyObject; ret = 0; allow_oob = false; allow_preconfig = false; features = [] }
