@@ -21,7 +21,8 @@ fn parsed(alloc: Global, text: &[u8]) -> Option<usize> {
     }
 }
 
-fn library(alloc: Global, text: &[u8]) -> Option<MemoryLibrary> {
+/// A library of the text alone, under the name `main`.
+pub fn library(alloc: Global, text: &[u8]) -> Option<MemoryLibrary> {
     let (Ok(name), Ok(text)) = (Text::of(alloc, b"main"), Text::of(alloc, text)) else {
         return None;
     };

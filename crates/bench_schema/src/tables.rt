@@ -126,6 +126,17 @@ fn bases(alloc: Global, size: u32) -> Result<Parts, NoMemory> {
     Ok(without_commands(alloc, kinds))
 }
 
+/// The schema of a table, where that is good.
+fn schema_of(alloc: Global, parts: Parts) -> Option<Schema> {
+    match parts_good(alloc, &parts) {
+        Ok(true) => match Schema::seal(alloc, parts) {
+            Ok(schema) => Some(schema),
+            Err(_) => None,
+        },
+        Ok(false) | Err(_) => None,
+    }
+}
+
 /// How many types a table has, which is sealed where it is good, by its shape and size.
 pub fn sealed(alloc: Global, shape: &str, size: u32) -> Option<usize> {
     let parts = match shape {
@@ -134,14 +145,22 @@ pub fn sealed(alloc: Global, shape: &str, size: u32) -> Option<usize> {
         "bases" => bases(alloc, size),
         _ => Err(NoMemory),
     };
-    let Ok(parts) = parts else {
-        return None;
-    };
-    match parts_good(alloc, &parts) {
-        Ok(true) => match Schema::seal(alloc, parts) {
-            Ok(schema) => Some(schema.types() as usize),
-            Err(_) => None,
-        },
-        Ok(false) | Err(_) => None,
+    match parts {
+        Ok(parts) => Some(schema_of(alloc, parts)?.types() as usize),
+        Err(_) => None,
+    }
+}
+
+fn wide_parts(alloc: Global, count: u32) -> Result<Parts, NoMemory> {
+    let mut kinds = first_kinds(alloc)?;
+    kinds.push(structure(alloc, b"member-", count)?)?;
+    Ok(without_commands(alloc, kinds))
+}
+
+/// A schema whose type 3 is a struct of so many members, in turn strings and whole numbers.
+pub fn wide(alloc: Global, count: u32) -> Option<Schema> {
+    match wide_parts(alloc, count) {
+        Ok(parts) => schema_of(alloc, parts),
+        Err(_) => None,
     }
 }
