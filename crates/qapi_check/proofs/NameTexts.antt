@@ -1,5 +1,5 @@
 -- Names that are formed as names are ASCII, so they are UTF-8.
-use Rattle.std.proofs.Common.{◌≡◌, ◌<◌, ◌+◌, ◌&&◌, ◌||◌, ◌==◌, ℕ, zero, suc, Bool, true, false, cond, List, [], ◌∷◌, length, take, drop, Option, Some, None, slice_get, position, refl, sym, ap, ◌∙◌, subst, inl, inr, arith}
+use Rattle.std.proofs.Common.{◌≡◌, ◌<◌, ◌+◌, ◌&&◌, ◌==◌, ℕ, zero, suc, Bool, true, false, cond, List, [], ◌∷◌, length, take, drop, Option, Some, None, slice_get, position, refl, subst, arith}
 use Rattle.std.specs.Prelude.{nat_eq, nat_lt}
 use Rattle.std.specs.{List.list_all, List.starts_with, Str.IsAscii, Str.is_utf8}
 use Rattle.std.proofs.lemmas.{Bool.and_parts, Bool.Decides.Decides-eqb, Bool.Decides.nat_tests}

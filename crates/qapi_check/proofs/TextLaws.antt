@@ -1,10 +1,9 @@
 -- The names in the table of definitions without a bad name are UTF-8.
-use Rattle.std.proofs.Common.{◌≡◌, ◌+◌, ℕ, Bool, true, false, cond, List, [], ◌∷◌, ◌++◌, map, length, codes, All, Option, Some, None, slice_get, unwrap_or, option_map, Result, IfOk, refl, sym, ap, ◌∙◌, subst, inl, inr, arith}
+use Rattle.std.proofs.Common.{◌≡◌, ◌+◌, ℕ, Bool, true, false, cond, List, [], ◌∷◌, ◌++◌, length, codes, All, Option, Some, None, slice_get, unwrap_or, option_map, Result, IfOk, refl, sym, subst, inl, inr, arith}
 use Rattle.std.specs.List.{enumerate_from, filter, flat_map}
 use Rattle.std.specs.{Option.option_and_then, Str.is_utf8}
 use Rattle.std.proofs.lemmas.List.Elements.{All-cons, All-nil}
-use Rattle.qapi_types.specs.declared.kind.{Kind.Kind, MemberDef.MemberDef, ValueDef.ValueDef}
-use Rattle.qapi_types.specs.declared.kind.Kind.TheVariants as kinds
+use Rattle.qapi_types.specs.declared.kind.{MemberDef.MemberDef, ValueDef.ValueDef}
 use Rattle.qapi_types.specs.declared.parts.{CommandDef.CommandDef, EventDef.EventDef, Parts.Parts}
 use Rattle.qapi_types.specs.Texts.{AreTexts, HasTexts, names_within}
 use Rattle.qapi_define.specs.declared.definition.{Definition.Definition, EnumValue.EnumValue, Member.Member, Part.Part, Sort.Sort}
@@ -18,7 +17,7 @@ use Rattle.qapi_rules.specs.{Names.is_name, Names.without_star, NamesRules.names
 use Rattle.qapi_number.specs.declared.{implicit.ImplicitType.ImplicitType, numbering.Numbering.Numbering}
 use Rattle.qapi_number.specs.declared.implicit.ImplicitType.TheVariants as implicit
 use Rattle.qapi_number.specs.Kinds.{all_members, bases_of, implicit_kind, kind_defined, line_from, member_def, member_defs, members_at, own_members, own_members_at, qtype_kind, value_def, value_defs}
-use Rattle.qapi_number.specs.{Numbering.numbering_of, TypeNames.is_type_sort, TypeNames.types_of}
+use Rattle.qapi_number.specs.{Numbering.numbering_of, TypeNames.is_type_sort}
 use Rattle.qapi_number.specs.PartsOf.{calls_of, command_in, commands_of, event_in, events_of, is_call_sort, parts_of}
 use Rattle.qapi_check.specs.Checking.{checked_sources, first_fault, table_unless}
 use Rattle.qapi_check.specs.Passes.{all_definitions, names_fault, numbered}

@@ -1,7 +1,7 @@
 -- The introspection array of parts whose names are UTF-8 is clean.
-use Rattle.std.proofs.Common.{◌≡◌, ◌<◌, ◌≤◌, ◌^◌, ◌+◌, ℕ, zero, suc, Bool, true, false, cond, List, [], ◌∷◌, ◌++◌, map, length, refl, ap, sym, ◌∙◌, subst, inl, inr, arith, Option, Some, None, slice_get}
+use Rattle.std.proofs.Common.{◌≡◌, ◌≤◌, ◌+◌, ℕ, zero, suc, Bool, true, false, cond, List, [], ◌∷◌, ◌++◌, map, length, refl, sym, ◌∙◌, subst, inl, inr, arith, Option, Some, None, slice_get}
 use Rattle.std.specs.Prelude.{codes, option_map}
-use Rattle.std.specs.{List.All, List.flat_map, Option.option_and_then, Option.unwrap_or, Str.IsUtf8, Str.is_utf8}
+use Rattle.std.specs.{List.All, List.flat_map, Option.option_and_then, Option.unwrap_or}
 use Rattle.std.proofs.Math.Dec.{eqb}
 use Rattle.std.proofs.lemmas.{Bool.and_from, Fmt.IsAscii-decimal, List.Folds.list_all-append, Str.IsUtf8-append, Str.IsUtf8-from_is_utf8, Str.is_utf8-from_IsUtf8}
 use Rattle.qm_json.specs.declared.value.{Json.Json, Member.Member}
@@ -18,9 +18,9 @@ use Rattle.qapi_mask.specs.Calls.{Call, Command, Event, calls_of}
 use Rattle.qapi_mask.specs.Entries.{entry_of, member_entry, tag_entry, value_entry, variant_of}
 use Rattle.qapi_mask.specs.Introspection.{call_json, entry_at, introspection_of, oob_members, type_json}
 use Rattle.qapi_mask.specs.Naming.{argument_type, builtin_of, element_of, listed_of, mask_in, mask_of, numbered_of, own_name_in, own_name_of, place_of}
-use Rattle.qapi_mask.specs.Printing.{features_members, with_text, with_value}
+use Rattle.qapi_mask.specs.Printing.{features_members, with_text}
 use Rattle.qapi_mask.proofs.CleanEntries.{AreClean, AreNamed, Each, IsEntryText, IsMemberText, IsTagText, IsText, IsValueText, IsVariantText, all-each, ascii-text, clean-entry, clean-text, clean-value, clean-with, each-map, mark, more, none, text}
-use Rattle.qapi_mask.proofs.Elements.{all-among, all-index, among-append}
+use Rattle.qapi_mask.proofs.Elements.{all-among, all-index}
 use Rattle.qapi_mask.proofs.Introduced.{among-given}
 use Rattle.qapi_mask.proofs.Lists.{among-left, among-right}
 use Rattle.qapi_mask.proofs.NamingLaws.{numbered-few}

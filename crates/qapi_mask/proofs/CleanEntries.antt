@@ -1,5 +1,5 @@
 -- What is printed of an entry is clean, where its texts are UTF-8.
-use Rattle.std.proofs.Common.{◌≡◌, ◌<◌, ℕ, Bool, true, false, List, [], ◌∷◌, ◌++◌, map, refl, ap, sym, ◌∙◌, subst, inl, inr, arith, Option, Some, None}
+use Rattle.std.proofs.Common.{◌≡◌, ℕ, Bool, true, false, List, [], ◌∷◌, ◌++◌, map, refl, ap, ◌∙◌, subst, inl, inr, arith, Option, Some, None}
 use Rattle.std.specs.Prelude.{codes, nat_lt}
 use Rattle.std.specs.{List.list_all, Str.IsAscii, Str.is_utf8}
 use Rattle.std.proofs.lemmas.{Bool.and_from, Bool.and_parts, Bool.Decides.nat_tests, List.append-nil}
@@ -10,7 +10,7 @@ use Rattle.qm_json.specs.Cleanness.{are_distinct, is_clean, is_clean_member}
 use Rattle.qm_json.proofs.CleanLaws.{is_clean-Arr, is_clean-Null, is_clean-Obj, is_clean-Str, is_clean_member-is}
 use Rattle.qm_admit.specs.Fitting.{Among}
 use Rattle.qapi_mask.specs.Entries.{Entry, Builtin, Enum, Array, Object, Alternate, MemberEntry, ValueEntry, Variant, TagEntry}
-use Rattle.qapi_mask.specs.Printing.{with_value, with_text, features_members, default_members, member_json, value_json, variant_json, alternative_json, tag_members, meta_type, entry_json}
+use Rattle.qapi_mask.specs.Printing.{with_value, with_text, features_members, default_members, member_json, value_json, variant_json, alternative_json, entry_json}
 use Rattle.qapi_mask.proofs.Lists.{among-source}
 
 abbrev pub IsText : List ℕ → Type 0
