@@ -27,6 +27,8 @@ if.json
 a.script
 ";
 
+/// A script that gives numbers at the ends of their range, and one that calls a command which a
+/// condition takes out.
 pub const PLAYED: &str = "\
 $ replay --schema s1.json a.script
 open
