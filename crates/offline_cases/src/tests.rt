@@ -1,7 +1,7 @@
-use qm_offline::run_offline;
 use qapi_load::{FileList, LibraryFile, MemoryLibrary};
 use qm_base::{CallList, NoMemory, Text};
 use qm_link::MemorySink;
+use qm_offline::run_offline;
 use std::alloc::{AllocError, Global};
 use std::test::Fail;
 
@@ -179,8 +179,14 @@ fn words_in_the_grammar_and_outside(rt: HostRuntime) -> Result<(), Fail> {
 #[test]
 fn runs_over_a_schema(rt: HostRuntime) -> Result<(), Fail> {
     let alloc = rt.alloc();
-    assert_eq!(rt; other_answers(alloc, served::FILES, served::PLAYED)?.as_str(), "");
-    assert_eq!(rt; other_answers(alloc, served::FILES, served::REFUSED)?.as_str(), "");
+    assert_eq!(rt;
+        other_answers(alloc, served::FILES, served::PLAYED)?.as_str(),
+        ""
+    );
+    assert_eq!(rt;
+        other_answers(alloc, served::FILES, served::REFUSED)?.as_str(),
+        ""
+    );
     let words = "replay --schema s1.json a.script";
     let unread = run(alloc, words, served::FILES, 1, 0)?;
     assert_eq!(rt; unread.as_str(), "6\nerror: cannot read s1.json\n");

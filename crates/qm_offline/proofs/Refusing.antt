@@ -64,8 +64,8 @@ over_loaded : (tells : Option (List NamedText)) (w : Words) (loaded : Loaded) (f
 over_loaded tells w loaded files (Ok parts) told schema value =
     record { asked = w; words_ask = refl; files = files; told = told; parts = parts; schema = schema; value = ok_is value }
   where
-  ok_is : {l m : Loaded} → (Result.Ok l ≡ (the (Result Loaded Refusal) (Ok m))) → l ≡ m
-  ok_is e = cc
+    ok_is : {l m : Loaded} → (Result.Ok l ≡ (the (Result Loaded Refusal) (Ok m))) → l ≡ m
+    ok_is e = cc
 over_loaded tells w loaded files (Err fault) told schema value = absurd cc
 
 pub loaded_is : (tells : Option (List NamedText)) (words : Option Words) (loaded : Loaded) → LoadedFrom tells words (Ok loaded) → IsLoaded tells words loaded

@@ -2,12 +2,12 @@
 //! put out for them.
 #![tactic(auto)]
 
-mod told;
 mod defines;
 pub mod loading;
 pub mod offline;
 pub mod refusal;
 mod rules;
+mod told;
 mod words;
 
 pub use loading::{Command, Loaded, load};

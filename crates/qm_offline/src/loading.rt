@@ -112,11 +112,7 @@ fn load_words<L: Library>(
 /// - `Library`: the file of this name could not be read; it comes exactly where the library's count
 ///   of faults rises.
 /// - `Memory`: no memory was left.
-pub fn load<L: Library>(
-    alloc: Global,
-    words: &[String],
-    library: &mut L,
-) -> Result<Loaded, Refusal>
+pub fn load<L: Library>(alloc: Global, words: &[String], library: &mut L) -> Result<Loaded, Refusal>
     ensures given { LoadedFrom (L.files library.old) (words_of_words (map string_bytes words.now)) result }
     ensures some { IfOk result (λ loaded. 1 ≤ loaded.limits.entries) }
     ensures few { IfOk result (λ loaded. loaded.limits.entries ≤ MOST_ENTRIES) }

@@ -8,9 +8,9 @@ ghost use Rattle.qm_core.specs.declared.TheConstants.{MOST_ENTRIES, MOST_TEXT};
 ghost use Rattle.qm_script.specs.Plays.{sunk};
 ghost use Rattle.qm_script.specs.Playing.{played_of};
 
-use crate::told::{ok_line, value_line};
 use crate::loading::{Command, Loaded, load};
 use crate::refusal::{Refusal, put_text, report};
+use crate::told::{ok_line, value_line};
 use qapi_load::{Library, LibraryFault};
 use qm_base::{NoMemory, Text};
 use qm_core::{Limits, World};
