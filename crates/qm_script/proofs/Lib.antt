@@ -3,4 +3,5 @@ pub mod LegalPlays
 pub mod LineLemmas
 pub mod OrderLemmas
 pub mod PutLemmas
+pub mod StepLemmas
 pub mod TurnLemmas
