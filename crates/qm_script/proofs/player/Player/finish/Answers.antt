@@ -9,4 +9,4 @@ pub returns-in-Err : goal.returns-in-Err
 returns-in-Err c =
     subst (λ (p : Playing). Turns p (finish_step p.world p.limits p.played c.args.moment (named_of (running_of (past_of p.played.journal)))) c.refused-in-Err.result) c.self.view_is
     (finish_refused c.self.inside.monitor c.finish.new.self (option_to_list c.self.inside.feeder) (named_of (running_of (past_of c.self.inside.monitor.journal))) c.in-Some.request c.args.moment c.in-Err.fault c.refused-in-Err.result
-    (search rules) (c.in-Err.ensures.next c.in-Err.fault-is) (search rules) (search rules))
+    (search rules) (search (rules, c.in-Err.ensures.next)) (search rules) (search rules))

@@ -8,4 +8,4 @@ pub returns-in-Err : goal.returns-in-Err
 returns-in-Err c =
     subst (λ (p : Playing). Turns p (open_step p.world p.limits p.played) c.refused-in-Err.result) c.self.view_is
     (open_refused c.self.inside.monitor c.open.new.self (option_to_list c.self.inside.feeder) c.in-Err.fault c.refused-in-Err.result
-    (search rules) (c.in-Err.ensures.next (λ e. cc)) (search rules) (search rules))
+    (search rules) (search (rules, c.in-Err.ensures.next)) (search rules) (search rules))
