@@ -33,7 +33,8 @@ const SCHEMA: &str = "
 
 /// Rows of a command, its arguments where it has some, and its reply: `return` and what is
 /// returned, or the class of an error and its description.
-const ROWS: &str = r#"qmp_capabilities | {"enable": 7} | GenericError Invalid parameter type for 'enable'
+const ROWS: &str =
+    r#"qmp_capabilities | {"enable": 7} | GenericError Invalid parameter type for 'enable'
 qmp_capabilities | {"enable": ["x"]} | GenericError Parameter 'enable[0]' does not accept this value
 qmp_capabilities | {"enable": [7]} | GenericError Invalid parameter type for 'enable[0]'
 qmp_capabilities | {"enable": ["oob", "x"]} | GenericError Parameter 'enable[1]' does not accept this value
@@ -125,7 +126,9 @@ fn written(rt: &impl AllocGlobal, row: &str, number: u64, before: u64) -> Result
     let admit = before.saturating_add(1);
     let start = before.saturating_add(2);
     let done = before.saturating_add(3);
-    Ok(format!(in rt.alloc(); "{admit} admit 1 {number} in {request}\n{start} start 1 {number}\n{done} done 1 {number} @0 {reply}\n")?)
+    Ok(format!(in rt.alloc();
+        "{admit} admit 1 {number} in {request}\n{start} start 1 {number}\n{done} done 1 {number} @0 {reply}\n"
+    )?)
 }
 
 /// The script of all rows.

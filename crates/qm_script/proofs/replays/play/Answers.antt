@@ -1,0 +1,14 @@
+use Rattle.std.proofs.Common.{rules, ap, ◌∙◌, Option}
+use Rattle.qm_script.specs.{Endings.end_of, Playing.played_of, Plays.sunk}
+use Rattle.qm_script.specs.declared.endings.Refused.{Refused}
+use Rattle.qm_script.proofs.PlayLemmas.{plays_whole}
+use Rattle.qm_script.proofs.replays.play.Goals as goal
+
+pub returns-in-Ok-put_transcript : goal.returns-in-Ok-put_transcript
+returns-in-Ok-put_transcript g c =
+    let ended = played_of c.args.world c.args.limits c.args.script.now in
+    let fine = c.in-Ok.ensures in
+    plays_whole ended (sunk g.S.Sink.contents g.S.Sink.faults c.args.sink.now c.put_transcript.new.sink) c.end_of.result
+    (c.end_of.ensures ∙ ap (λ (r : Option Refused). end_of r) fine.refused)
+    (rw (c.journal.ensures, fine.journal, fine.refused) at c.in-Ok-put_transcript.ensures.text)
+    (search (rules, c.in-Ok-put_transcript.ensures.kept))
