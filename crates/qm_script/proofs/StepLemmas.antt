@@ -1,9 +1,9 @@
 -- A step that the monitor refuses leaves the player as it was.
-use Rattle.std.proofs.Common.{◌≡◌, ℕ, ◌==◌, Bool, true, false, List, [], ◌∷◌, ◌++◌, length, Option, Some, None, Err, refl, ap, sym, ◌∙◌, subst}
+use Rattle.std.proofs.Common.{◌≡◌, ◌≢◌, Result, ℕ, ◌==◌, Bool, true, false, List, [], ◌∷◌, ◌++◌, length, Option, Some, None, Err, refl, ap, sym, ◌∙◌, subst}
 use Rattle.std.specs.Bool.{if◌then◌else◌}
 use Rattle.qm_core.specs.{Legal.past_of, Next.Next, Next.View, Next.entry_of, Next.refusal_of, Standing.sessions_of}
 use Rattle.qm_core.specs.Next as step
-use Rattle.qm_core.specs.declared.{entries.Entry.Entry, entries.StepFault.StepFault, requests.RequestName.RequestName}
+use Rattle.qm_core.specs.declared.{entries.Entry.Entry, entries.StepFault.StepFault, entries.StepFault.TheVariants.Memory, requests.RequestName.RequestName}
 use Rattle.qm_script.specs.{Endings.stop_of, Kept.Turns, Players.Playing}
 use Rattle.qm_script.specs.Playing.{Played, core_step, finish_step, open_step, stepped}
 use Rattle.qm_script.specs.declared.{endings.Stop.TheVariants.BadLine, player.Turn.Turn}
@@ -53,3 +53,7 @@ open_refused old new fed fault turn none next stop player =
     (refusal_of old.world old.limits past step.Open) (entry_of old.world past step.Open) turn first
     (found_refused (playing old fed) record { journal = old.journal; fed = fed ++ [] ∷ [] } (refusal_of old.world old.limits past step.Open)
     (entry_of old.world past step.Open) fault turn next.answer stop (player ∙ kept old new fed step.Open fault next))
+
+-- a fault that is not want of memory
+pub unlike-memory : {A : Type 0} (fault : StepFault) (given : Result A StepFault) → given ≡ Err fault → fault ≢ Memory → given ≢ Err Memory
+unlike-memory fault given is known same = known (let both = sym is ∙ same in cc)

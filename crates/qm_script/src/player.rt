@@ -1,4 +1,4 @@
-ghost use Rattle.std.specs.Prelude.{◌≡◌, ◌≤◌, ◌++◌, IfOk, IfSome, Some, None, slice_get, true};
+ghost use Rattle.std.specs.Prelude.{◌≡◌, ◌≢◌, ◌≤◌, ◌++◌, IfOk, OnOk, IfSome, Some, None, slice_get, true};
 ghost use Rattle.qm_core.specs.Legal.{past_of};
 ghost use Rattle.qm_core.specs.Next.{Start, Take, End, Drop, session_refusal};
 ghost use Rattle.qm_core.specs.Next as step;
@@ -69,6 +69,26 @@ fn stop_of(fault: StepFault) -> Stop
     }
 }
 
+/// The stop for a step's fault; want of memory is none.
+fn told(fault: StepFault) -> Result<Stop, NoMemory>
+    ensures stop { IfOk result (λ stop. stop ≡ stop_of_fault fault) }
+    ensures known { OnOk result (fault ≢ StepFault.Memory) }
+{
+    match fault {
+        StepFault::Memory => Err(NoMemory),
+        StepFault::NoSession
+        | StepFault::Closed
+        | StepFault::InputEnded
+        | StepFault::Busy
+        | StepFault::Nothing
+        | StepFault::NotRunning
+        | StepFault::NotDrained
+        | StepFault::WrongCause
+        | StepFault::SessionsFull
+        | StepFault::JournalFull => Ok(stop_of(fault)),
+    }
+}
+
 impl Player {
     ghost use Rattle.qm_script.specs.Kept.{Turns};
 
@@ -124,8 +144,7 @@ impl Player {
                 self.feeder = Some(feeder);
                 Ok(self.stepped())
             }
-            Err(StepFault::Memory) => Err(NoMemory),
-            Err(fault) => Ok(self.refused(stop_of(fault))),
+            Err(fault) => Ok(self.refused(told(fault)?)),
         }
     }
 
@@ -224,8 +243,7 @@ impl Player {
             .finish(alloc, request.session, request.number, moment)
         {
             Ok(()) => Ok(self.stepped()),
-            Err(StepFault::Memory) => Err(NoMemory),
-            Err(fault) => Ok(self.refused(stop_of(fault))),
+            Err(fault) => Ok(self.refused(told(fault)?)),
         }
     }
 
