@@ -1,5 +1,5 @@
 -- The answer of a run that was not loaded.
-use Rattle.std.proofs.Common.{◌≡◌, ◌≢◌, ℕ, List, ◌⊎◌, Option, Some, None, Result, Ok, Err, IsSome, refl, ap, sym, ◌∙◌, subst, inl}
+use Rattle.std.proofs.Common.{◌≡◌, ◌≢◌, ℕ, List, [], ◌⊎◌, Option, Some, None, Result, Ok, Err, IsSome, refl, ap, sym, ◌∙◌, subst, inl}
 use Rattle.qapi_load.specs.{Causes.Failures, Causes.IsCaused, Files.NamedText}
 use Rattle.qapi_load.specs.Loading.{memory_fault as load_memory}
 use Rattle.qapi_load.specs.declared.fault.{LoadFault.LoadFault, LoadRule.LoadRule}
@@ -11,11 +11,11 @@ use Rattle.qapi_check.specs.Checking.{HasCause as HasSchemaCause, IsAnswer as Is
 use Rattle.qapi_check.specs.declared.loading.{SchemaFault.SchemaFault, SchemaFault.TheVariants.Load, SchemaFault.TheVariants.Check}
 use Rattle.qm_offline.specs.{Answers.Ran, Answers.Ends, Answers.Answers, Answers.Schema, Causes.MayRead}
 use Rattle.qm_offline.specs.Loading.{HasCause, IsAnswer, IsLoaded, LoadedFrom, loaded_of, loaded_over}
-use Rattle.qm_offline.specs.{Output.Output, Output.Outside, Output.fault_line, Output.output_over, Output.refusal_output, Output.schema_of, Output.schema_output}
+use Rattle.qm_offline.specs.{Output.Output, Output.Outside, Output.fault_line, Output.output_over, Output.refusal_output, Output.limits_of, Output.schema_of, Output.schema_output, Output.world_of}
 use Rattle.qm_offline.specs.{Refusals.check_refusal, Refusals.load_refusal, Refusals.refusal_of, Words.Words, Words.names_defined}
 use Rattle.qm_offline.specs.declared.{loading.Loaded.Loaded, refusal.Refusal.Refusal}
 use Rattle.qm_offline.specs.declared.refusal.Refusal.TheVariants as refusal
-use Rattle.qm_offline.proofs.Runs.{done_with, ended_for_memory, outside_over, schema-over, unread}
+use Rattle.qm_offline.proofs.Runs.{done_with, ended_for_memory, files-told, outside_over, run_files, schema-over, unread}
 
 -- a refusal that is an answer is for a fault that is one
 load_answered : (fault : LoadFault) (rule : LoadRule) → fault.rule ≡ rule → IsAnswer {A = Loaded} (Err (load_refusal rule fault)) →
@@ -58,19 +58,33 @@ pub refused_cause : (w : Words) (fault : SchemaFault) (before now : Failures) �
 refused_cause w (Load fault) before now cause some = load_cause w fault fault.rule before now refl cause some
 refused_cause w (Check fault) before now cause some = check_cause w fault fault.rule before now cause
 
+-- want of memory, and words outside the grammar
+pub memory_from : (tells : Option (List NamedText)) (words : Option Words) → LoadedFrom tells words (Err refusal.Memory)
+memory_from tells words = record { files = run_files tells []; told = λ told e. files-told tells [] told e; answer = λ is. absurd is }
+
+pub words_from : (tells : Option (List NamedText)) (words : Option Words) → words ≡ None → LoadedFrom tells words (Err refusal.Words)
+words_from tells words none = record {
+  files = run_files tells [];
+  told = λ told e. files-told tells [] told e;
+  answer = λ is. sym (ap (λ (o : Option Words). loaded_of o (run_files tells [])) none);
+}
+
 -- what is loaded was asked for, and its schema has no fault
 over_loaded : (tells : Option (List NamedText)) (w : Words) (loaded : Loaded) (files : List NamedText) (answer : Result Parts SchemaFault) →
     ((told : List NamedText) → tells ≡ Some told → files ≡ told) → schema_of w files ≡ answer → Ok loaded ≡ loaded_over w answer → IsLoaded tells (Some w) loaded
 over_loaded tells w loaded files (Ok parts) told schema value =
-    record { asked = w; words_ask = refl; files = files; told = told; parts = parts; schema = schema; value = ok_is value }
-  where
-    ok_is : {l m : Loaded} → (Result.Ok l ≡ (the (Result Loaded Refusal) (Ok m))) → l ≡ m
-    ok_is e = cc
+    let same : loaded ≡ record { command = w.command; world = world_of parts; limits = limits_of w.entries } = cc in
+    record { asked = w; words_ask = refl; files = files; told = told; parts = parts; schema = schema; value = same }
 over_loaded tells w loaded files (Err fault) told schema value = absurd cc
 
-pub loaded_is : (tells : Option (List NamedText)) (words : Option Words) (loaded : Loaded) → LoadedFrom tells words (Ok loaded) → IsLoaded tells words loaded
+loaded_is : (tells : Option (List NamedText)) (words : Option Words) (loaded : Loaded) → LoadedFrom tells words (Ok loaded) → IsLoaded tells words loaded
 loaded_is tells None loaded given = absurd (let no = given.answer tt in cc)
 loaded_is tells (Some w) loaded given = over_loaded tells w loaded given.files (schema_of w given.files) given.told refl (given.answer tt)
+
+pub loaded_after : (before after : Option (List NamedText)) (words : Option Words) (loaded : Loaded) → after ≡ before → LoadedFrom before words (Ok loaded) →
+    IsLoaded after words loaded
+loaded_after before after words loaded same given =
+    loaded_is after words loaded (subst (λ (t : Option (List NamedText)). LoadedFrom t words (Ok loaded)) (sym same) given)
 
 -- what is put for a refusal is what is put for its schema's fault
 load_line-is : (fault : LoadFault) (rule : LoadRule) → IsAnswer {A = Loaded} (Err (load_refusal rule fault)) →

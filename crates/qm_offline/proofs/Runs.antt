@@ -1,10 +1,11 @@
 -- The answer of a run from that of its part.
-use Rattle.std.proofs.Common.{◌≡◌, ◌≢◌, ℕ, ◌==◌, Bool, true, false, cond, List, [], ◌∷◌, ◌++◌, ◌⊎◌, Option, Some, None, option_map, unwrap_or, Result, Ok, Err, refl, ap, sym, ◌∙◌, subst, append-nil, inl, inr}
+use Rattle.qm_json.specs.{Printing.printed, declared.value.Json.Json}
+use Rattle.std.proofs.Common.{codes, ◌≡◌, ◌≢◌, ℕ, ◌==◌, Bool, true, false, cond, List, [], ◌∷◌, ◌++◌, ◌⊎◌, Option, Some, None, option_map, unwrap_or, Result, Ok, Err, refl, ap, sym, ◌∙◌, subst, append-nil, inl, inr}
 use Rattle.std.specs.{Str.bytes_eq}
 use Rattle.std.proofs.lemmas.Slice.Eq.{bytes_eq-Decides}
 use Rattle.qm_base.specs.{Faults.Rose, Faults.told_more, Faults.HoldsPart, Prefixes.IsPrefix}
 use Rattle.qm_base.proofs.Prefixes.{empty_prefix}
-use Rattle.qapi_load.specs.Files.{NamedText, text_of}
+use Rattle.qapi_load.specs.{Causes.Failures, Files.NamedText, Files.text_of}
 use Rattle.qapi_types.specs.declared.parts.Parts.{Parts}
 use Rattle.qm_core.specs.Legal.{IsLegal, past_of}
 use Rattle.qm_core.specs.Transcript.{taken_of, transcript_of}
@@ -15,7 +16,7 @@ use Rattle.qm_script.specs.declared.endings.Stop.TheVariants.{BadLine, Step, Ses
 use Rattle.qm_script.proofs.LegalPlays.{script_legal}
 use Rattle.qm_offline.specs.{Answers.Ran, Answers.Ends, Answers.Exactly, Answers.Gives, Answers.Answers, Answers.IsLegalOver, Answers.PutsUnread, Answers.Schema, Answers.Stood}
 use Rattle.qm_offline.specs.Causes.{is_full, needs_script, Loads, Refuses, Accepts, Finds, Misses, PlaysTo, Stops, MayRead}
-use Rattle.qm_offline.specs.Output.{Output, Outside, output_over, schema_output, command_output, replay_output, end_status_of, fault_line, limits_of, play_of, play_from, play_over, journal_for, schema_of, world_of, cannot_read, usage}
+use Rattle.qm_offline.specs.Output.{Output, Outside, output_over, schema_output, command_output, replay_output, end_status_of, fault_line, limits_of, ok_line, play_of, play_from, play_over, journal_for, schema_of, world_of, cannot_read, usage}
 use Rattle.qapi_check.specs.{Checking.table_of, declared.loading.SchemaFault.SchemaFault}
 use Rattle.qm_offline.specs.declared.loading.Command.{Command, TheVariants.Check, TheVariants.Introspect, TheVariants.Replay}
 use Rattle.qm_offline.specs.{Loading.IsLoaded, Words.Words, Words.names_defined}
@@ -35,7 +36,7 @@ abbrev pub run_files : Option (List NamedText) → List NamedText → List Named
 run_files None other = other
 run_files (Some told) other = told
 
-files-told : (tells : Option (List NamedText)) (other told : List NamedText) → tells ≡ Some told → run_files tells other ≡ told
+pub files-told : (tells : Option (List NamedText)) (other told : List NamedText) → tells ≡ Some told → run_files tells other ≡ told
 files-told None other told e = cc
 files-told (Some files) other told e = ap (λ (t : Option (List NamedText)). unwrap_or t []) e
 
@@ -298,7 +299,7 @@ stood_loaded ran loaded is files told = record {
   script_told = told;
 }
 
-loads_for : (ran : Ran) (loaded : Loaded) (is : IsLoaded ran.files ran.words loaded) (files : List NamedText) → Loads ran.words (loaded_outside is.parts files) (Ok is.parts)
+abbrev loads_for : (ran : Ran) (loaded : Loaded) (is : IsLoaded ran.files ran.words loaded) (files : List NamedText) → Loads ran.words (loaded_outside is.parts files) (Ok is.parts)
 loads_for ran loaded is files = record { asked = is.asked; words_ask = is.words_ask; answers = refl }
 
 -- what the schema says was put
@@ -311,6 +312,30 @@ told_alone ran status loaded command is same kept ends =
     let asks : is.asked.command ≡ command = sym (ap (λ (l : Loaded). l.command) is.value) ∙ same in
     done_with outside ran status _ (stood_loaded ran loaded is files (λ told e. files-told ran.files [] told e)) kept
     (loads_output ran.words outside (Ok is.parts) (loads_for ran loaded is files) ∙ ap (command_output is.parts files is.asked.entries) asks) ends
+
+-- the counts of its definitions, and what a client is told of it
+pub told_count : (ran : Ran) (status : ℕ) (loaded : Loaded) (is : IsLoaded ran.files ran.words loaded) → loaded.command ≡ Check → ran.library_now ≡ ran.library_before →
+    Ends (ok_line loaded.world.schema) 0 ran.sink status → Answers ran status
+told_count ran status loaded is same kept ends =
+    told_alone ran status loaded Check is same kept (subst (λ (p : Parts). Ends (ok_line p) 0 ran.sink status) (ap (λ (l : Loaded). l.world.schema) is.value) ends)
+
+pub told_array : (ran : Ran) (status : ℕ) (loaded : Loaded) (is : IsLoaded ran.files ran.words loaded) → loaded.command ≡ Introspect → ran.library_now ≡ ran.library_before →
+    Ends (printed loaded.world.introspection ++ codes "\n") 0 ran.sink status → Answers ran status
+told_array ran status loaded is same kept ends =
+    told_alone ran status loaded Introspect is same kept
+    (subst (λ (j : Json). Ends (printed j ++ codes "\n") 0 ran.sink status) (ap (λ (l : Loaded). l.world.introspection) is.value) ends)
+
+-- the same run from before what did not fail
+pub kept_answers : (ran : Ran) (files : Option (List NamedText)) (after before : Failures) (status : ℕ) → ran.files ≡ files → ran.library_before ≡ after.count →
+    after ≡ before → Answers ran status → Answers (record ran { files = files; library_before = before.count }) status
+kept_answers ran files after before status same now kept answer =
+    subst (λ (n : ℕ). Answers (record ran { files = files; library_before = n }) status) (now ∙ ap (λ (f : Failures). f.count) kept)
+    (subst (λ (t : Option (List NamedText)). Answers (record ran { files = t }) status) same answer)
+
+-- the script of the name is asked for
+pub may_read : (tells : Option (List NamedText)) (words : Option Words) (loaded : Loaded) (name : List ℕ) → loaded.command ≡ Replay name → IsLoaded tells words loaded → MayRead words name
+may_read tells words loaded name ordered is =
+    subst (λ (o : Option Words). MayRead o name) (sym is.words_ask) (inr (sym (ap (λ (l : Loaded). l.command) is.value) ∙ ordered))
 
 -- the library answered for the script
 pub answered : (ran : Ran) (status : ℕ) (world : World) (limits : Limits) (name : List ℕ) (answer : Option (List ℕ)) →
