@@ -44,7 +44,7 @@ fn fits(schema: &Schema, value: &Json) -> bool {
 fn admitted(alloc: Global, text: &[u8], times: u32) -> Option<usize> {
     let value = value_of(alloc, text)?;
     let count = count_of(&value);
-    let schema = wide(alloc, count as u32)?;
+    let schema = wide(alloc, u32::try_from(count).ok()?)?;
     for _ in 0..times {
         if !fits(&schema, &value) {
             return None;

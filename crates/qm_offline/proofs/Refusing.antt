@@ -1,17 +1,16 @@
 -- The answer of a run that was not loaded.
-use Rattle.std.proofs.Common.{◌≡◌, ◌≢◌, ℕ, List, [], ◌⊎◌, Option, Some, None, Result, Ok, Err, IsSome, refl, ap, sym, ◌∙◌, subst, inl}
+use Rattle.std.proofs.Common.{◌≡◌, ℕ, List, [], Option, Some, None, Result, Ok, Err, IsSome, refl, ap, sym, ◌∙◌, subst, inl}
 use Rattle.qapi_load.specs.{Causes.Failures, Causes.IsCaused, Files.NamedText}
-use Rattle.qapi_load.specs.Loading.{memory_fault as load_memory}
 use Rattle.qapi_load.specs.declared.fault.{LoadFault.LoadFault, LoadRule.LoadRule}
 use Rattle.qapi_load.specs.declared.fault.LoadRule.TheVariants as load
 use Rattle.qapi_rules.specs.declared.fault.{CheckFault.CheckFault, CheckRule.CheckRule}
 use Rattle.qapi_rules.specs.declared.fault.CheckRule.TheVariants as check
 use Rattle.qapi_types.specs.declared.parts.Parts.{Parts}
-use Rattle.qapi_check.specs.Checking.{HasCause as HasSchemaCause, IsAnswer as IsSchemaAnswer, IsUnread as IsSchemaUnread, SchemaFrom, memory_fault as check_memory}
+use Rattle.qapi_check.specs.Checking.{HasCause as HasSchemaCause, IsAnswer as IsSchemaAnswer, IsUnread as IsSchemaUnread, SchemaFrom}
 use Rattle.qapi_check.specs.declared.loading.{SchemaFault.SchemaFault, SchemaFault.TheVariants.Load, SchemaFault.TheVariants.Check}
-use Rattle.qm_offline.specs.{Answers.Ran, Answers.Ends, Answers.Answers, Answers.Schema, Causes.MayRead}
+use Rattle.qm_offline.specs.{Answers.Ran, Answers.Ends, Answers.Answers}
 use Rattle.qm_offline.specs.Loading.{HasCause, IsAnswer, IsLoaded, LoadedFrom, loaded_of, loaded_over}
-use Rattle.qm_offline.specs.{Output.Output, Output.Outside, Output.fault_line, Output.output_over, Output.refusal_output, Output.limits_of, Output.schema_of, Output.schema_output, Output.world_of}
+use Rattle.qm_offline.specs.{Output.fault_line, Output.output_over, Output.refusal_output, Output.limits_of, Output.schema_of, Output.schema_output, Output.world_of}
 use Rattle.qm_offline.specs.{Refusals.check_refusal, Refusals.load_refusal, Refusals.refusal_of, Words.Words, Words.names_defined}
 use Rattle.qm_offline.specs.declared.{loading.Loaded.Loaded, refusal.Refusal.Refusal}
 use Rattle.qm_offline.specs.declared.refusal.Refusal.TheVariants as refusal

@@ -16,10 +16,10 @@ use Rattle.qm_script.specs.declared.endings.Stop.TheVariants.{BadLine, Step, Ses
 use Rattle.qm_script.proofs.LegalPlays.{script_legal}
 use Rattle.qm_offline.specs.{Answers.Ran, Answers.Ends, Answers.Exactly, Answers.Gives, Answers.Answers, Answers.IsLegalOver, Answers.PutsUnread, Answers.Schema, Answers.Stood}
 use Rattle.qm_offline.specs.Causes.{is_full, needs_script, Loads, Refuses, Accepts, Finds, Misses, PlaysTo, Stops, MayRead}
-use Rattle.qm_offline.specs.Output.{Output, Outside, output_over, schema_output, command_output, replay_output, end_status_of, fault_line, limits_of, ok_line, play_of, play_from, play_over, journal_for, schema_of, world_of, cannot_read, usage}
+use Rattle.qm_offline.specs.Output.{Output, Outside, output_over, schema_output, command_output, replay_output, end_status_of, limits_of, ok_line, play_of, play_from, play_over, journal_for, schema_of, world_of, cannot_read}
 use Rattle.qapi_check.specs.{Checking.table_of, declared.loading.SchemaFault.SchemaFault}
 use Rattle.qm_offline.specs.declared.loading.Command.{Command, TheVariants.Check, TheVariants.Introspect, TheVariants.Replay}
-use Rattle.qm_offline.specs.{Loading.IsLoaded, Words.Words, Words.names_defined}
+use Rattle.qm_offline.specs.{Loading.IsLoaded, Words.Words}
 use Rattle.qm_offline.specs.declared.loading.Loaded.{Loaded}
 use Rattle.qm_core.specs.declared.{monitor.Limits.Limits, world.World.World}
 use Rattle.qm_script.specs.Playing.{played_of}

@@ -1,5 +1,5 @@
 -- What loading a command line answers (this project's own rule).
-use Rattle.std.specs.Prelude.{◌≡◌, ℕ, ◌≤◌, List, Option, Some, None, Result, Ok, Err}
+use Rattle.std.specs.Prelude.{◌≡◌, ℕ, List, Option, Some, None, Result, Ok, Err}
 use Rattle.qm_base.specs.Faults.{Rose}
 use Rattle.qm_offline.specs.Causes.{MayRead}
 use Rattle.qapi_load.specs.{Causes.Failures, Files.NamedText}

@@ -1,5 +1,5 @@
 -- A play whose whole transcript was put.
-use Rattle.std.proofs.Common.{◌≡◌, ◌≢◌, ℕ, List, Option, Some, None, sym, ◌∙◌, refl}
+use Rattle.std.proofs.Common.{◌≡◌, ◌≢◌, ℕ, List, Option, Some, None, sym, ◌∙◌}
 use Rattle.qm_base.specs.Faults.{told_more, HoldsPart}
 use Rattle.qm_base.proofs.Prefixes.{refl_prefix}
 use Rattle.qm_script.specs.{Endings.end_of, Endings.stop_end_of, Playing.Ended, Playing.transcript_text_of, Plays.Plays, Plays.Sinking}
