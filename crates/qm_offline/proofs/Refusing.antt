@@ -8,7 +8,7 @@ use Rattle.qapi_rules.specs.declared.fault.CheckRule.TheVariants as check
 use Rattle.qapi_types.specs.declared.parts.Parts.{Parts}
 use Rattle.qapi_check.specs.Checking.{HasCause as HasSchemaCause, IsAnswer as IsSchemaAnswer, IsUnread as IsSchemaUnread, SchemaFrom}
 use Rattle.qapi_check.specs.declared.loading.{SchemaFault.SchemaFault, SchemaFault.TheVariants.Load, SchemaFault.TheVariants.Check}
-use Rattle.qm_offline.specs.{Answers.Ran, Answers.Ends, Answers.Answers}
+use Rattle.qm_offline.specs.{Answers.Ran, Answers.Ends, Answers.Answers, Causes.MayRead, Causes.NamesSchema}
 use Rattle.qm_offline.specs.Loading.{HasCause, IsAnswer, IsLoaded, LoadedFrom, loaded_of, loaded_over}
 use Rattle.qm_offline.specs.{Output.fault_line, Output.output_over, Output.refusal_output, Output.limits_of, Output.schema_of, Output.schema_output, Output.world_of}
 use Rattle.qm_offline.specs.{Refusals.check_refusal, Refusals.load_refusal, Refusals.refusal_of, Words.Words, Words.names_defined}
@@ -41,10 +41,14 @@ pub accepted_from : (tells : Option (List NamedText)) (w : Words) (parts : Parts
     Ok loaded ≡ loaded_over w (Ok parts) → LoadedFrom tells (Some w) (Ok loaded)
 accepted_from tells w parts loaded given value = record { files = given.files; told = given.told; answer = λ is. value ∙ ap (loaded_over w) (given.answer tt) }
 
+read_for_schema : (words : Option Words) (name : List ℕ) → NamesSchema words → MayRead words name
+read_for_schema None name names = absurd names
+read_for_schema (Some w) name names = inl names
+
 load_cause : (w : Words) (fault : LoadFault) (rule : LoadRule) (before now : Failures) → fault.rule ≡ rule → IsCaused fault before now →
     (fault.rule ≡ load.ReadFault → IsSome w.schema) → HasCause {A = Loaded} (Some w) (Err (load_refusal rule fault)) before now
 load_cause w fault load.ReadFault before now is cause some =
-    record { rose = cause.rose is; named = sym (ap (λ (f : LoadFault). f.file) (cause.named is)); may = inl (some is) }
+    record { rose = cause.rose is; named = sym (ap (λ (f : LoadFault). f.file) (cause.named is)); may = some is }
 load_cause w fault rule before now is cause some = cause.kept (λ e. let same = sym is ∙ e in cc)
 
 check_cause : (w : Words) (fault : CheckFault) (rule : CheckRule) (before now : Failures) → now ≡ before →
@@ -125,6 +129,6 @@ refused ran status told given is kept ends =
 pub not_loaded : (ran : Ran) (status : ℕ) (name : List ℕ) (told : Refusal) → LoadedFrom ran.files ran.words (Err told) →
     HasCause {A = Loaded} ran.words (Err told) (record { count = ran.library_before; name = name }) (record { count = ran.library_now; name = ran.failed_name }) →
     Ends (refusal_output told).bytes (refusal_output told).status ran.sink status → (status ≡ 1 → ran.sink.holds ≡ ran.sink.held) → Answers ran status
-not_loaded ran status name (refusal.Library file) given cause ends nothing = unread ran status file cause.may cause.rose cause.named ends nothing
+not_loaded ran status name (refusal.Library file) given cause ends nothing = unread ran status file (read_for_schema ran.words file cause.may) cause.rose cause.named ends nothing
 not_loaded ran status name refusal.Memory given cause ends nothing = ended_for_memory ran status ends nothing
 not_loaded ran status name told given cause ends nothing = refused ran status told given tt (ap (λ (f : Failures). f.count) cause) ends

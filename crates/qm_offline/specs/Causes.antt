@@ -59,6 +59,11 @@ pub record Stops (full : Bool) (words : Option Words) (outside : Outside) : Type
   pub plays : PlaysTo words outside (Some line)
   pub cause : is_full line.stop ≡ full
 
+-- the words name a schema
+abbrev pub NamesSchema : Option Words → Type 0
+NamesSchema None = ⊥
+NamesSchema (Some w) = IsSome w.schema
+
 -- a file that the words may have read: the script, or any file of the schema
 abbrev pub MayRead : Option Words → List ℕ → Type 0
 MayRead None name = ⊥

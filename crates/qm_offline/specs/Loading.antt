@@ -1,7 +1,7 @@
 -- What loading a command line answers (this project's own rule).
 use Rattle.std.specs.Prelude.{◌≡◌, ℕ, List, Option, Some, None, Result, Ok, Err}
 use Rattle.qm_base.specs.Faults.{Rose}
-use Rattle.qm_offline.specs.Causes.{MayRead}
+use Rattle.qm_offline.specs.Causes.{NamesSchema}
 use Rattle.qapi_load.specs.{Causes.Failures, Files.NamedText}
 use Rattle.qapi_types.specs.declared.parts.Parts.{Parts}
 use Rattle.qapi_check.specs.declared.loading.SchemaFault.{SchemaFault}
@@ -35,7 +35,7 @@ pub record LoadedFrom (tells : Option (List NamedText)) (words : Option Words) (
 pub record IsUnread (words : Option Words) (name : List ℕ) (before now : Failures) : Type 0 where
   pub rose : Rose before.count now.count
   pub named : now.name ≡ name
-  pub may : MayRead words name
+  pub may : NamesSchema words
 
 -- reading fails exactly where the library's count of faults rises
 abbrev pub HasCause : {A : Type 0} → Option Words → Result A Refusal → Failures → Failures → Type 0

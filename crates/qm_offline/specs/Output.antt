@@ -150,8 +150,3 @@ output_over (Some w) outside = schema_output w outside.files outside.schema
 -- what loading and checking the schema of a command line answers, over files
 abbrev pub schema_of : Words → List NamedText → Result Parts SchemaFault
 schema_of w files = table_of files w.schema (names_defined w.define)
-
--- the status and the bytes for words over files
-abbrev pub output_of : Option Words → List NamedText → Output
-output_of None files = usage
-output_of (Some w) files = schema_output w files (schema_of w files)

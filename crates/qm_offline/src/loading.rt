@@ -1,6 +1,7 @@
 //! What a command line asks for: its words, and the schema that they name.
 ghost use Rattle.std.specs.Prelude.{◌≡◌, ◌≤◌, IfOk, map, string_bytes, Some, Ok};
-ghost use Rattle.qapi_types.specs.Prelude.{HasPrelude};
+ghost use Rattle.qm_json.specs.Cleanness.{IsClean};
+ghost use Rattle.qapi_types.specs.{Prelude.HasPrelude, Texts.HasTexts};
 ghost use Rattle.qm_core.specs.declared.TheConstants.{MOST_ENTRIES, MOST_TEXT};
 ghost use Rattle.qm_offline.specs.Loading.{HasCause, LoadedFrom, loaded_over};
 ghost use Rattle.qm_offline.specs.Output.{world_of as world_of_schema};
@@ -12,6 +13,7 @@ use crate::words::{CommandWord, Words, words_of};
 use qapi_check::load_schema;
 use qapi_load::Library;
 use qapi_mask::introspect;
+use qapi_mask::laws::introspection_is_clean;
 use qapi_types::Schema;
 use qm_base::{NoMemory, Text};
 use qm_core::{Limits, MOST_TEXT, World};
@@ -50,9 +52,13 @@ fn ordered(alloc: Global, word: CommandWord<'_>) -> Result<Command, NoMemory>
 }
 
 fn served(alloc: Global, schema: Schema) -> Result<World, NoMemory>
-    requires { HasPrelude schema }
-    ensures { IfOk result (λ world. world ≡ world_of_schema schema) }
+    requires prelude { HasPrelude schema }
+    requires texts { HasTexts schema }
+    ensures value { IfOk result (λ world. world ≡ world_of_schema schema) }
+    ensures clean { IfOk result (λ world. IsClean world.introspection) }
 {
+    introspection_is_clean();
+    let _parts = schema.parts();
     let introspection = introspect(alloc, &schema)?;
     Ok(World {
         schema,
@@ -61,11 +67,13 @@ fn served(alloc: Global, schema: Schema) -> Result<World, NoMemory>
 }
 
 fn over_schema(alloc: Global, words: &Words<'_>, schema: Schema) -> Result<Loaded, NoMemory>
-    requires { HasPrelude schema }
+    requires prelude { HasPrelude schema }
+    requires texts { HasTexts schema }
     ensures value { IfOk result (λ loaded. Ok loaded ≡ loaded_over words.now (Ok schema)) }
     ensures some { IfOk result (λ loaded. 1 ≤ loaded.limits.entries) }
     ensures few { IfOk result (λ loaded. loaded.limits.entries ≤ MOST_ENTRIES) }
     ensures short { IfOk result (λ loaded. loaded.limits.text ≤ MOST_TEXT) }
+    ensures clean { IfOk result (λ loaded. IsClean loaded.world.introspection) }
 {
     Ok(Loaded {
         command: ordered(alloc, words.command())?,
@@ -86,6 +94,7 @@ fn load_words<L: Library>(
     ensures some { IfOk result (λ loaded. 1 ≤ loaded.limits.entries) }
     ensures few { IfOk result (λ loaded. loaded.limits.entries ≤ MOST_ENTRIES) }
     ensures short { IfOk result (λ loaded. loaded.limits.text ≤ MOST_TEXT) }
+    ensures clean { IfOk result (λ loaded. IsClean loaded.world.introspection) }
     ensures same { L.files library.new ≡ L.files library.old }
     ensures cause { HasCause (Some words.now) result
         (record { count = L.faults library.old; name = L.failed_name library.old })
@@ -117,6 +126,7 @@ pub fn load<L: Library>(alloc: Global, words: &[String], library: &mut L) -> Res
     ensures some { IfOk result (λ loaded. 1 ≤ loaded.limits.entries) }
     ensures few { IfOk result (λ loaded. loaded.limits.entries ≤ MOST_ENTRIES) }
     ensures short { IfOk result (λ loaded. loaded.limits.text ≤ MOST_TEXT) }
+    ensures clean { IfOk result (λ loaded. IsClean loaded.world.introspection) }
     ensures same { L.files library.new ≡ L.files library.old }
     ensures cause { HasCause (words_of_words (map string_bytes words.now)) result
         (record { count = L.faults library.old; name = L.failed_name library.old })
