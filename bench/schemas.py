@@ -1,4 +1,4 @@
-"""Random schemas: most are accepted, and some break a rule."""
+"""Random schemas: many are accepted, and the others break a rule."""
 import checker as R
 
 
