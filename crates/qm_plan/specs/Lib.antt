@@ -1,0 +1,4 @@
+pub mod Applying
+pub mod Plans
+pub mod Stores
+pub mod Templates
