@@ -1,0 +1,4 @@
+pub mod FillLaws
+pub mod Gathering
+pub mod Overlay
+pub mod Tables

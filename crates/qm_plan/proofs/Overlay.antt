@@ -1,0 +1,86 @@
+-- What a store holds once changes are committed.
+use Rattle.std.proofs.Common.{◌≡◌, ℕ, ◌+◌, ◌<◌, Bool, true, false, cond, List, [], ◌∷◌, ◌++◌, length, get_or, take, Option, Some, None, option_map, unwrap_or, Result, Ok, Err, refl, ap, sym, ◌∙◌, drop}
+use Rattle.std.specs.{Option.option_or, Str.bytes_eq}
+use Rattle.std.proofs.lemmas.List.{drop_more}
+use Rattle.qm_json.specs.declared.value.Json.{Json}
+use Rattle.qm_plan.specs.declared.{changes.StoreChange.StoreChange, facts.Facts.Facts, applied.ApplyFault.ApplyFault, recipes.Act.Act}
+use Rattle.qm_plan.specs.declared.changes.StoreChange.TheVariants as change
+use Rattle.qm_plan.specs.Applying.{act_of, acts_of, then_acts}
+use Rattle.qm_plan.specs.Stores.{Contents, Held, Count, cell_of, tally_of, changed, committed, newest, cell_in, tally_in}
+use Rattle.qm_plan.proofs.Tables.{with-value-is}
+
+-- a first value, where nothing newer is given
+pub newer : {V : Type 0} → Option V → Option V → Option V
+newer given first = option_map (λ f. unwrap_or given f) first
+
+newer-none : {V : Type 0} (first : Option V) → newer None first ≡ first
+unfolding newer
+newer-none None = refl
+newer-none (Some f) = refl
+
+newer-twice : {V : Type 0} (new old first : Option V) → newer new (newer old first) ≡ newer (option_or new old) first
+unfolding newer
+newer-twice new old None = refl
+newer-twice None old (Some f) = refl
+newer-twice (Some v) old (Some f) = refl
+
+newer-if : {V : Type 0} (b : Bool) (v : V) (first : Option V) → option_map (λ f. cond b v f) first ≡ newer (cond b (Some v) None) first
+unfolding newer
+newer-if b v None = refl
+newer-if true v (Some f) = refl
+newer-if false v (Some f) = refl
+
+cell-changed : (name : List ℕ) (c : StoreChange) (store : Contents) → cell_of name (changed c store) ≡ newer (cell_in name c) (cell_of name store)
+cell-changed name (change.Cell other value) store =
+    with-value-is {A = Held} (λ n. n) (λ n v. record { name = n; value = v }) (λ (h : Held). h.name) (λ (h : Held). h.value) (λ n v. refl) (λ n v. refl) other name value store.cells
+    ∙ newer-if (bytes_eq other name) value (cell_of name store)
+cell-changed name (change.Tally other count) store = sym (newer-none (cell_of name store))
+
+tally-changed : (name : List ℕ) (c : StoreChange) (store : Contents) → tally_of name (changed c store) ≡ newer (tally_in name c) (tally_of name store)
+tally-changed name (change.Cell other value) store = sym (newer-none (tally_of name store))
+tally-changed name (change.Tally other count) store =
+    with-value-is {A = Count} (λ n. n) (λ n v. record { name = n; count = v }) (λ (t : Count). t.name) (λ (t : Count). t.count) (λ n v. refl) (λ n v. refl) other name count store.tallies
+    ∙ newer-if (bytes_eq other name) count (tally_of name store)
+
+-- the value of a cell is that of the newest change, where the cell is there
+pub cell-committed : (name : List ℕ) (changes : List StoreChange) (store : Contents) → cell_of name (committed changes store) ≡ newer (newest (cell_in name) changes) (cell_of name store)
+cell-committed name [] store = sym (newer-none (cell_of name store))
+cell-committed name (c ∷ changes) store =
+    cell-committed name changes (changed c store) ∙ ap (newer (newest (cell_in name) changes)) (cell-changed name c store) ∙ newer-twice (newest (cell_in name) changes) (cell_in name c) (cell_of name store)
+
+pub tally-committed : (name : List ℕ) (changes : List StoreChange) (store : Contents) → tally_of name (committed changes store) ≡ newer (newest (tally_in name) changes) (tally_of name store)
+tally-committed name [] store = sym (newer-none (tally_of name store))
+tally-committed name (c ∷ changes) store =
+    tally-committed name changes (changed c store) ∙ ap (newer (newest (tally_in name) changes)) (tally-changed name c store) ∙ newer-twice (newest (tally_in name) changes) (tally_in name c) (tally_of name store)
+
+or-thrice : {V : Type 0} (a b c : Option V) → option_or (option_or a b) c ≡ option_or a (option_or b c)
+or-thrice None b c = refl
+or-thrice (Some v) b c = refl
+
+or-none : {V : Type 0} (a : Option V) → option_or a None ≡ a
+or-none None = refl
+or-none (Some v) = refl
+
+-- one change more
+pub newest-more : {V : Type 0} (given : StoreChange → Option V) (changes : List StoreChange) (c : StoreChange) → newest given (changes ++ c ∷ []) ≡ option_or (given c) (newest given changes)
+newest-more given [] c = sym (or-none (given c))
+newest-more given (d ∷ changes) c = ap (λ o. option_or o (given d)) (newest-more given changes c) ∙ or-thrice (given c) (newest given changes) (given d)
+
+pub committed-more : (changes : List StoreChange) (c : StoreChange) (store : Contents) → committed (changes ++ c ∷ []) store ≡ changed c (committed changes store)
+committed-more [] c store = refl
+committed-more (d ∷ changes) c store = committed-more changes c (changed d store)
+
+-- one act more was done
+pub act-step : (facts : Facts) (acts : List Act) (i : ℕ) (act : Act) (before after : Contents) (whole : Result Contents ApplyFault) → i < length acts → act ≡ get_or acts i act →
+    act_of facts act before ≡ Ok after → acts_of facts (drop i acts) before ≡ whole → acts_of facts (drop (i + 1) acts) after ≡ whole
+act-step facts acts i act before after whole low at done so =
+    let rest : drop i acts ≡ act ∷ drop (i + 1) acts = drop_more acts i act low ∙ ap (λ (a : Act). a ∷ drop (i + 1) acts) (sym at) in
+    let one : acts_of facts (drop i acts) before ≡ acts_of facts (drop (i + 1) acts) after = ap (λ (l : List Act). acts_of facts l before) rest ∙ ap (then_acts (acts_of facts (drop (i + 1) acts))) done in
+    sym one ∙ so
+
+-- an act failed
+pub act-fails : (facts : Facts) (acts : List Act) (i : ℕ) (act : Act) (before : Contents) (fault : ApplyFault) (whole : Result Contents ApplyFault) → i < length acts → act ≡ get_or acts i act →
+    act_of facts act before ≡ Err fault → acts_of facts (drop i acts) before ≡ whole → whole ≡ Err fault
+act-fails facts acts i act before fault whole low at done so =
+    let rest : drop i acts ≡ act ∷ drop (i + 1) acts = drop_more acts i act low ∙ ap (λ (a : Act). a ∷ drop (i + 1) acts) (sym at) in
+    sym so ∙ ap (λ (l : List Act). acts_of facts l before) rest ∙ ap (then_acts (acts_of facts (drop (i + 1) acts))) done
