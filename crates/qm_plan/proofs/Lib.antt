@@ -1,4 +1,4 @@
+pub mod Commits
 pub mod FillLaws
 pub mod Gathering
-pub mod Overlay
 pub mod Tables
