@@ -1,7 +1,7 @@
 -- What a store holds once changes are committed.
-use Rattle.std.proofs.Common.{◌≡◌, ℕ, ◌+◌, ◌<◌, Bool, true, false, cond, List, [], ◌∷◌, ◌++◌, length, get_or, take, Option, Some, None, option_map, unwrap_or, Result, Ok, Err, refl, ap, sym, ◌∙◌, drop}
+use Rattle.std.proofs.Common.{◌≡◌, ℕ, ◌+◌, ◌-◌, ◌<◌, ◌≤◌, arith, Bool, true, false, cond, List, [], ◌∷◌, ◌++◌, length, get_or, take, Option, Some, None, option_map, unwrap_or, Result, Ok, Err, refl, ap, sym, ◌∙◌, drop}
 use Rattle.std.specs.{Option.option_or, Str.bytes_eq}
-use Rattle.std.proofs.lemmas.List.{drop_more}
+use Rattle.std.proofs.lemmas.List.{drop_more, take_more}
 use Rattle.qm_json.specs.declared.value.Json.{Json}
 use Rattle.qm_plan.specs.declared.{changes.StoreChange.StoreChange, facts.Facts.Facts, applied.ApplyFault.ApplyFault, recipes.Act.Act}
 use Rattle.qm_plan.specs.declared.changes.StoreChange.TheVariants as change
@@ -10,22 +10,19 @@ use Rattle.qm_plan.specs.Stores.{Contents, Held, Count, cell_of, tally_of, chang
 use Rattle.qm_plan.proofs.Tables.{with-value-is}
 
 -- a first value, where nothing newer is given
-pub newer : {V : Type 0} → Option V → Option V → Option V
+abbrev pub newer : {V : Type 0} → Option V → Option V → Option V
 newer given first = option_map (λ f. unwrap_or given f) first
 
 newer-none : {V : Type 0} (first : Option V) → newer None first ≡ first
-unfolding newer
 newer-none None = refl
 newer-none (Some f) = refl
 
 newer-twice : {V : Type 0} (new old first : Option V) → newer new (newer old first) ≡ newer (option_or new old) first
-unfolding newer
 newer-twice new old None = refl
 newer-twice None old (Some f) = refl
 newer-twice (Some v) old (Some f) = refl
 
 newer-if : {V : Type 0} (b : Bool) (v : V) (first : Option V) → option_map (λ f. cond b v f) first ≡ newer (cond b (Some v) None) first
-unfolding newer
 newer-if b v None = refl
 newer-if true v (Some f) = refl
 newer-if false v (Some f) = refl
@@ -42,16 +39,24 @@ tally-changed name (change.Tally other count) store =
     with-value-is {A = Count} (λ n. n) (λ n v. record { name = n; count = v }) (λ (t : Count). t.name) (λ (t : Count). t.count) (λ n v. refl) (λ n v. refl) other name count store.tallies
     ∙ newer-if (bytes_eq other name) count (tally_of name store)
 
--- the value of a cell is that of the newest change, where the cell is there
-pub cell-committed : (name : List ℕ) (changes : List StoreChange) (store : Contents) → cell_of name (committed changes store) ≡ newer (newest (cell_in name) changes) (cell_of name store)
+cell-committed : (name : List ℕ) (changes : List StoreChange) (store : Contents) → cell_of name (committed changes store) ≡ newer (newest (cell_in name) changes) (cell_of name store)
 cell-committed name [] store = sym (newer-none (cell_of name store))
 cell-committed name (c ∷ changes) store =
     cell-committed name changes (changed c store) ∙ ap (newer (newest (cell_in name) changes)) (cell-changed name c store) ∙ newer-twice (newest (cell_in name) changes) (cell_in name c) (cell_of name store)
 
-pub tally-committed : (name : List ℕ) (changes : List StoreChange) (store : Contents) → tally_of name (committed changes store) ≡ newer (newest (tally_in name) changes) (tally_of name store)
+tally-committed : (name : List ℕ) (changes : List StoreChange) (store : Contents) → tally_of name (committed changes store) ≡ newer (newest (tally_in name) changes) (tally_of name store)
 tally-committed name [] store = sym (newer-none (tally_of name store))
 tally-committed name (c ∷ changes) store =
     tally-committed name changes (changed c store) ∙ ap (newer (newest (tally_in name) changes)) (tally-changed name c store) ∙ newer-twice (newest (tally_in name) changes) (tally_in name c) (tally_of name store)
+
+-- what a cell holds is what the newest change gave it, where the cell is there
+pub cell-after : (name : List ℕ) (changes : List StoreChange) (store : Contents) (given first : Option Json) → given ≡ newest (cell_in name) changes → first ≡ cell_of name store →
+    newer given first ≡ cell_of name (committed changes store)
+cell-after name changes store given first g f = ap (λ o. newer o first) g ∙ ap (newer (newest (cell_in name) changes)) f ∙ sym (cell-committed name changes store)
+
+pub tally-after : (name : List ℕ) (changes : List StoreChange) (store : Contents) (given first : Option ℕ) → given ≡ newest (tally_in name) changes → first ≡ tally_of name store →
+    newer given first ≡ tally_of name (committed changes store)
+tally-after name changes store given first g f = ap (λ o. newer o first) g ∙ ap (newer (newest (tally_in name) changes)) f ∙ sym (tally-committed name changes store)
 
 or-thrice : {V : Type 0} (a b c : Option V) → option_or (option_or a b) c ≡ option_or a (option_or b c)
 or-thrice None b c = refl
@@ -62,7 +67,7 @@ or-none None = refl
 or-none (Some v) = refl
 
 -- one change more
-pub newest-more : {V : Type 0} (given : StoreChange → Option V) (changes : List StoreChange) (c : StoreChange) → newest given (changes ++ c ∷ []) ≡ option_or (given c) (newest given changes)
+newest-more : {V : Type 0} (given : StoreChange → Option V) (changes : List StoreChange) (c : StoreChange) → newest given (changes ++ c ∷ []) ≡ option_or (given c) (newest given changes)
 newest-more given [] c = sym (or-none (given c))
 newest-more given (d ∷ changes) c = ap (λ o. option_or o (given d)) (newest-more given changes c) ∙ or-thrice (given c) (newest given changes) (given d)
 
@@ -84,3 +89,22 @@ pub act-fails : (facts : Facts) (acts : List Act) (i : ℕ) (act : Act) (before 
 act-fails facts acts i act before fault whole low at done so =
     let rest : drop i acts ≡ act ∷ drop (i + 1) acts = drop_more acts i act low ∙ ap (λ (a : Act). a ∷ drop (i + 1) acts) (sym at) in
     sym so ∙ ap (λ (l : List Act). acts_of facts l before) rest ∙ ap (then_acts (acts_of facts (drop (i + 1) acts))) done
+
+newest-back : {V : Type 0} (given : StoreChange → Option V) (changes : List StoreChange) (end : ℕ) (c : StoreChange) → 0 < end → end ≤ length changes → c ≡ get_or changes (end - 1) c →
+    newest given (take end changes) ≡ option_or (given c) (newest given (take (end - 1) changes))
+newest-back given changes end c some low at =
+    let whole : take end changes ≡ take (end - 1) changes ++ c ∷ [] =
+    ap (λ (n : ℕ). take n changes) (omega arith) ∙ take_more changes (end - 1) c (omega arith) ∙ ap (λ (d : StoreChange). take (end - 1) changes ++ d ∷ []) (sym at) in
+    ap (newest given) whole ∙ newest-more given (take (end - 1) changes) c
+
+-- the last change gives something
+pub newest-stops : {V : Type 0} (given : StoreChange → Option V) (changes : List StoreChange) (end : ℕ) (c : StoreChange) (v : V) → 0 < end → end ≤ length changes → c ≡ get_or changes (end - 1) c →
+    Some v ≡ given c → newest given (take end changes) ≡ newest given changes → Some v ≡ newest given changes
+newest-stops given changes end c v some low at gives so =
+    ap (λ o. option_or o (newest given (take (end - 1) changes))) gives ∙ sym (newest-back given changes end c some low at) ∙ so
+
+-- the last change gives nothing
+pub newest-goes : {V : Type 0} (given : StoreChange → Option V) (changes : List StoreChange) (end : ℕ) (c : StoreChange) → 0 < end → end ≤ length changes → c ≡ get_or changes (end - 1) c →
+    None ≡ given c → newest given (take end changes) ≡ newest given changes → newest given (take (end - 1) changes) ≡ newest given changes
+newest-goes given changes end c some low at gives so =
+    ap (λ o. option_or o (newest given (take (end - 1) changes))) gives ∙ sym (newest-back given changes end c some low at) ∙ so

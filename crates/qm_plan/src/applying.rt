@@ -11,7 +11,7 @@ use crate::applied::{Applied, ApplyFault};
 use crate::changes::{StoreChange, StoreChangeList};
 use crate::events::{Raised, RaisedList};
 use crate::facts::Facts;
-use crate::lists::push_some;
+use crate::lists::{note_some, push_some};
 use crate::recipes::{Act, Plan};
 use crate::stores::Store;
 use crate::templates::Template;
@@ -199,9 +199,8 @@ fn raise_all(
 {
     let mut raised = RaisedList::new(alloc);
     for act in acts {
-        if let Some(next) = raise(alloc, act, store, changes, facts)? {
-            raised.push(next)?;
-        }
+        let next = raise(alloc, act, store, changes, facts)?;
+        note_some(&mut raised, next)?;
     }
     Ok(raised)
 }
