@@ -1,11 +1,11 @@
 -- What a store holds once changes are committed.
-use Rattle.std.proofs.Common.{◌≡◌, ℕ, ◌+◌, ◌-◌, ◌<◌, ◌≤◌, arith, Bool, true, false, cond, List, [], ◌∷◌, ◌++◌, length, get_or, take, Option, Some, None, option_map, unwrap_or, Result, Ok, Err, refl, ap, sym, ◌∙◌, drop}
-use Rattle.std.specs.{Option.option_or, Str.bytes_eq}
+use Rattle.std.proofs.Common.{◌≡◌, ℕ, ◌+◌, ◌-◌, ◌<◌, ◌≤◌, arith, Bool, true, false, cond, List, [], ◌∷◌, ◌++◌, length, get_or, take, Option, Some, None, option_map, unwrap_or, slice_get, Result, Ok, Err, refl, ap, sym, ◌∙◌, drop}
+use Rattle.std.specs.{List.filter_map, List.list_any, Option.option_or, Str.bytes_eq}
 use Rattle.std.proofs.lemmas.List.{drop_more, take_more}
 use Rattle.qm_json.specs.declared.value.Json.{Json}
-use Rattle.qm_plan.specs.declared.{changes.StoreChange.StoreChange, facts.Facts.Facts, applied.ApplyFault.ApplyFault, recipes.Act.Act}
+use Rattle.qm_plan.specs.declared.{changes.StoreChange.StoreChange, facts.Facts.Facts, applied.ApplyFault.ApplyFault, applied.Applied.Applied, recipes.Act.Act, recipes.Plan.Plan}
 use Rattle.qm_plan.specs.declared.changes.StoreChange.TheVariants as change
-use Rattle.qm_plan.specs.Applying.{act_of, acts_of, then_acts}
+use Rattle.qm_plan.specs.{Applying.act_of, Applying.acts_of, Applying.then_acts, Applying.applied_of, Applying.outcome_from, Applying.outcome_in, Applying.job_act_of, Applying.raised_of, Applying.enabled_by, Applying.is_quit, Templates.value_of}
 use Rattle.qm_plan.specs.Stores.{Contents, Held, Count, cell_of, tally_of, changed, committed, newest, cell_in, tally_in}
 use Rattle.qm_plan.proofs.Tables.{with-value-is}
 
@@ -71,9 +71,13 @@ newest-more : {V : Type 0} (given : StoreChange → Option V) (changes : List St
 newest-more given [] c = sym (or-none (given c))
 newest-more given (d ∷ changes) c = ap (λ o. option_or o (given d)) (newest-more given changes c) ∙ or-thrice (given c) (newest given changes) (given d)
 
-pub committed-more : (changes : List StoreChange) (c : StoreChange) (store : Contents) → committed (changes ++ c ∷ []) store ≡ changed c (committed changes store)
+committed-more : (changes : List StoreChange) (c : StoreChange) (store : Contents) → committed (changes ++ c ∷ []) store ≡ changed c (committed changes store)
 committed-more [] c store = refl
 committed-more (d ∷ changes) c store = committed-more changes c (changed d store)
+
+-- a change was noted behind the others
+pub noted : (before after : List StoreChange) (c : StoreChange) (store : Contents) → after ≡ before ++ c ∷ [] → committed after store ≡ changed c (committed before store)
+noted before after c store is = ap (λ (l : List StoreChange). committed l store) is ∙ committed-more before c store
 
 -- one act more was done
 pub act-step : (facts : Facts) (acts : List Act) (i : ℕ) (act : Act) (before after : Contents) (whole : Result Contents ApplyFault) → i < length acts → act ≡ get_or acts i act →
@@ -108,3 +112,12 @@ pub newest-goes : {V : Type 0} (given : StoreChange → Option V) (changes : Lis
     None ≡ given c → newest given (take end changes) ≡ newest given changes → newest given (take (end - 1) changes) ≡ newest given changes
 newest-goes given changes end c some low at gives so =
     ap (λ o. option_or o (newest given (take (end - 1) changes))) gives ∙ sym (newest-back given changes end c some low at) ∙ so
+
+-- what comes of a plan, part by part
+pub outcome-is : (facts : Facts) (plan : Plan) (store : Contents) (applied : Applied) → acts_of facts plan.acts store ≡ Ok (committed applied.changes store) →
+    applied.ret ≡ value_of facts (committed applied.changes store) plan.ret → applied.jobs ≡ filter_map (job_act_of facts (committed applied.changes store)) plan.acts →
+    applied.raised ≡ filter_map (raised_of facts (committed applied.changes store)) plan.acts → applied.enable ≡ slice_get (filter_map enabled_by plan.acts) 0 →
+    applied.quit ≡ list_any is_quit plan.acts → applied_of facts plan store ≡ Ok (outcome_in applied store)
+outcome-is facts plan store applied acts ret jobs raised enable quit =
+    ap (outcome_from facts plan) acts
+    ∙ (λ i. Ok (record { ret = sym ret i; store = committed applied.changes store; jobs = sym jobs i; raised = sym raised i; enable = sym enable i; quit = sym quit i }))

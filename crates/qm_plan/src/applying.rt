@@ -93,11 +93,13 @@ fn act(
     match act {
         Act::Set { cell, to } => {
             let made = set(alloc, cell, to, store, changes.as_slice(), facts)?;
-            note(changes, made)
+            note(changes, made)?;
+            Ok(())
         }
         Act::Add { tally, by } => {
             let made = add(alloc, tally, *by, store, changes.as_slice())?;
-            note(changes, made)
+            note(changes, made)?;
+            Ok(())
         }
         Act::Fail(text) => Err(ApplyFault::Failed(text.copy(alloc)?)),
         _ => Ok(()),
