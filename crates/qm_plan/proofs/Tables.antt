@@ -1,5 +1,5 @@
 -- Named things as the entries of a map, and what its calls make of them.
-use Rattle.std.proofs.Common.{◌≡◌, ℕ, ◌<◌, Bool, true, false, cond, not, ◌&&◌, ◌||◌, List, [], ◌∷◌, ◌++◌, length, get_or, take, drop, suc, map, find, Option, Some, None, option_map, refl, ap, sym, ◌∙◌, subst, arith}
+use Rattle.std.proofs.Common.{◌≡◌, ℕ, ◌<◌, Bool, true, false, cond, ◌||◌, List, [], ◌∷◌, ◌++◌, length, get_or, take, drop, suc, map, find, Some, None, option_map, refl, ap, sym, ◌∙◌, subst}
 use Rattle.std.specs.List.{list_any, IsDistinct, AllByRecursion}
 use Rattle.std.specs.{Map.keys_of, Map.lookup, Map.set_value, Str.bytes_eq}
 use Rattle.std.proofs.Math.Seq.{split_at}

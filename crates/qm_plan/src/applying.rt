@@ -137,9 +137,19 @@ fn job_act(
         job_act_of facts.now (committed changes.now store.now) act.now) }
 {
     match act {
-        Act::Start { id, units, ready, manual } => {
+        Act::Start {
+            id,
+            units,
+            ready,
+            manual,
+        } => {
             let id = Template::Const(value(alloc, id, store, changes, facts)?);
-            Ok(Some(Act::Start { id, units: *units, ready: *ready, manual: *manual }))
+            Ok(Some(Act::Start {
+                id,
+                units: *units,
+                ready: *ready,
+                manual: *manual,
+            }))
         }
         Act::OnJob { verb, id } => {
             let id = Template::Const(value(alloc, id, store, changes, facts)?);
@@ -182,7 +192,10 @@ fn raise(
     match act {
         Act::Raise { event, payload } => {
             let payload = payload_value(alloc, payload, store, changes, facts)?;
-            Ok(Some(Raised { event: *event, payload }))
+            Ok(Some(Raised {
+                event: *event,
+                payload,
+            }))
         }
         _ => Ok(None),
     }

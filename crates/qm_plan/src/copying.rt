@@ -70,10 +70,7 @@ fn copy_members(
     Ok(copied)
 }
 
-fn copy_payload(
-    alloc: Global,
-    payload: &Option<Template>,
-) -> Result<Option<Template>, NoMemory>
+fn copy_payload(alloc: Global, payload: &Option<Template>) -> Result<Option<Template>, NoMemory>
     ensures { IfOk result (λ copied. copied ≡ payload.now) }
 {
     match payload {
@@ -97,11 +94,24 @@ fn copy_act(alloc: Global, act: &Act) -> Result<Act, NoMemory>
         }
         Act::Raise { event, payload } => {
             let payload = copy_payload(alloc, payload)?;
-            Ok(Act::Raise { event: *event, payload })
+            Ok(Act::Raise {
+                event: *event,
+                payload,
+            })
         }
-        Act::Start { id, units, ready, manual } => {
+        Act::Start {
+            id,
+            units,
+            ready,
+            manual,
+        } => {
             let id = id.copy(alloc)?;
-            Ok(Act::Start { id, units: *units, ready: *ready, manual: *manual })
+            Ok(Act::Start {
+                id,
+                units: *units,
+                ready: *ready,
+                manual: *manual,
+            })
         }
         Act::OnJob { verb, id } => {
             let id = id.copy(alloc)?;
@@ -131,6 +141,10 @@ impl Recipe {
     {
         let acts = copy_acts(alloc, self.acts.as_slice())?;
         let ret = self.ret.copy(alloc)?;
-        Ok(Recipe { acts, ret, waiting: self.waiting })
+        Ok(Recipe {
+            acts,
+            ret,
+            waiting: self.waiting,
+        })
     }
 }

@@ -15,10 +15,7 @@ pub(crate) fn push_some<T: Drop>(list: &mut Items<T>, item: Option<T>) -> Result
 }
 
 /// The same for a list that grows.
-pub(crate) fn note_some<T: Drop>(
-    list: &mut GrowingList<T>,
-    item: Option<T>,
-) -> Result<(), NoMemory>
+pub(crate) fn note_some<T: Drop>(list: &mut GrowingList<T>, item: Option<T>) -> Result<(), NoMemory>
     ensures { OnOk result (list.new ≡ list.old ++ cons_option item []) }
 {
     match item {

@@ -24,11 +24,7 @@ fn empty(alloc: Global) -> Json
 }
 
 /// What is left of a template, the empty object where nothing is.
-fn fill_or_empty(
-    alloc: Global,
-    template: &Template,
-    arguments: &Json,
-) -> Result<Template, NoMemory>
+fn fill_or_empty(alloc: Global, template: &Template, arguments: &Json) -> Result<Template, NoMemory>
     ensures { IfOk result (λ left. left ≡ filled_or_empty arguments.now template.now) }
 {
     match fill(alloc, template, arguments)? {
@@ -77,11 +73,24 @@ fn fill_act(alloc: Global, act: &Act, arguments: &Json) -> Result<Option<Act>, N
         Act::Set { cell, to } => fill_set(alloc, cell, to, arguments),
         Act::Raise { event, payload } => {
             let payload = fill_payload(alloc, payload, arguments)?;
-            Ok(Some(Act::Raise { event: *event, payload }))
+            Ok(Some(Act::Raise {
+                event: *event,
+                payload,
+            }))
         }
-        Act::Start { id, units, ready, manual } => {
+        Act::Start {
+            id,
+            units,
+            ready,
+            manual,
+        } => {
             let id = fill_or_empty(alloc, id, arguments)?;
-            Ok(Some(Act::Start { id, units: *units, ready: *ready, manual: *manual }))
+            Ok(Some(Act::Start {
+                id,
+                units: *units,
+                ready: *ready,
+                manual: *manual,
+            }))
         }
         Act::OnJob { verb, id } => {
             let id = fill_or_empty(alloc, id, arguments)?;
@@ -119,11 +128,7 @@ fn fill_recipe(alloc: Global, recipe: &Recipe, arguments: &Json) -> Result<Plan,
 }
 
 /// The plan of a recipe and arguments; without any they are the empty object.
-pub fn plan_with(
-    alloc: Global,
-    recipe: &Recipe,
-    arguments: Option<&Json>,
-) -> Result<Plan, NoMemory>
+pub fn plan_with(alloc: Global, recipe: &Recipe, arguments: Option<&Json>) -> Result<Plan, NoMemory>
     ensures { IfOk result (λ plan. plan ≡
         plan_of recipe.now (arguments_of (option_copied arguments.entry))) }
 {

@@ -30,8 +30,8 @@ impl Model for Store {
     ghost coded = { contents_code json.the_row.coded };
 
     ghost view = { λ s. record {
-        cells = held_of (λ key. key.items) s.cells.entries;
-        tallies = counts_of (λ key. key.items) s.tallies.entries;
+      cells = held_of (λ key. key.items) s.cells.entries;
+      tallies = counts_of (λ key. key.items) s.tallies.entries;
     } };
 }
 

@@ -1,5 +1,5 @@
-use Rattle.std.proofs.Common.{◌≡◌, ◌∙◌, ap, sym, Ok, Result}
-use Rattle.qm_plan.specs.declared.{applied.ApplyFault.ApplyFault, changes.StoreChange.StoreChange, recipes.Act.Act}
+use Rattle.std.proofs.Common.{◌∙◌, ap, sym, Ok}
+use Rattle.qm_plan.specs.declared.{changes.StoreChange.StoreChange, recipes.Act.Act}
 use Rattle.qm_plan.specs.{Applying.act_of, Stores.Contents, Stores.changed, Stores.committed}
 use Rattle.qm_plan.proofs.Commits.{noted}
 use Rattle.qm_plan.proofs.applying.act.Goals as goal

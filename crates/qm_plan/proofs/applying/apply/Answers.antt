@@ -1,4 +1,3 @@
-use Rattle.std.proofs.Common.{◌≡◌}
 use Rattle.qm_plan.proofs.Commits.{outcome-is}
 use Rattle.qm_plan.proofs.applying.apply.Goals as goal
 

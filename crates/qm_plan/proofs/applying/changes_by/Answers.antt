@@ -1,4 +1,3 @@
-use Rattle.std.proofs.Common.{◌≡◌}
 use Rattle.qm_plan.specs.Stores.{committed}
 use Rattle.qm_plan.proofs.Commits.{act-step}
 use Rattle.qm_plan.proofs.applying.changes_by.Goals as goal

@@ -1,4 +1,4 @@
-use Rattle.std.proofs.Common.{◌≡◌, Some, ap, sym, ◌∙◌, List}
+use Rattle.std.proofs.Common.{Some, ap, sym, ◌∙◌, List}
 use Rattle.std.specs.List.{filter_map}
 use Rattle.qm_plan.specs.Templates.{filled, filled_member}
 use Rattle.qm_plan.specs.declared.templates.{Template.Template, TemplateMember.TemplateMember}

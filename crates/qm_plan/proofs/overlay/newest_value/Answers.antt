@@ -1,4 +1,4 @@
-use Rattle.std.proofs.Common.{◌≡◌, ◌∙◌, ap, arith}
+use Rattle.std.proofs.Common.{arith}
 use Rattle.qm_plan.specs.Stores.{cell_in}
 use Rattle.qm_plan.proofs.Commits.{newest-stops, newest-goes}
 use Rattle.qm_plan.proofs.overlay.newest_value.Goals as goal

@@ -1,4 +1,4 @@
-use Rattle.std.proofs.Common.{◌≡◌, refl}
+use Rattle.std.proofs.Common.{refl}
 use Rattle.qm_plan.specs.{Stores.Held, declared.cells.Cell.Cell}
 use Rattle.qm_plan.proofs.Tables.{new-at}
 use Rattle.qm_plan.proofs.stores.first_cells.Goals as goal

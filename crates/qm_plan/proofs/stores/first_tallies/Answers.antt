@@ -1,4 +1,4 @@
-use Rattle.std.proofs.Common.{◌≡◌, ℕ, List, [], ◌∷◌, true, map, refl, ap, sym, ◌∙◌}
+use Rattle.std.proofs.Common.{◌≡◌, ℕ, List, [], ◌∷◌, map, refl, ap, ◌∙◌}
 use Rattle.qm_json.specs.Cleanness.{are_distinct}
 use Rattle.qm_plan.specs.{Stores.Count}
 use Rattle.qm_plan.proofs.Tables.{new-at}

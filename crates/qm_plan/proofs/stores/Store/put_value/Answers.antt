@@ -1,4 +1,4 @@
-use Rattle.std.proofs.Common.{◌≡◌, ◌∙◌, ap, refl}
+use Rattle.std.proofs.Common.{◌∙◌, ap, refl}
 use Rattle.qm_plan.specs.Stores.{counts_of, held_of}
 use Rattle.qm_plan.proofs.Tables.{table-set}
 use Rattle.qm_plan.proofs.stores.Store.put_value.Goals as goal

@@ -1,4 +1,4 @@
-use Rattle.std.proofs.Common.{◌≡◌, ◌∙◌, refl}
+use Rattle.std.proofs.Common.{◌∙◌, refl}
 use Rattle.qm_plan.proofs.Tables.{found}
 use Rattle.qm_plan.proofs.stores.Store.tally.Goals as goal
 
