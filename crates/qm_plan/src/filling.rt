@@ -20,10 +20,10 @@ fn constant(alloc: Global, value: &Json) -> Result<Template, NoMemory>
 fn argument(alloc: Global, name: &Text, arguments: &Json) -> Result<Option<Template>, NoMemory>
     ensures { IfOk result (λ left. left ≡ option_map Const (member_of arguments.now name.now)) }
 {
-    match arguments.member(name.as_slice()) {
-        Some(value) => Ok(Some(constant(alloc, value)?)),
-        None => Ok(None),
-    }
+    let Some(value) = arguments.member(name.as_slice()) else {
+        return Ok(None);
+    };
+    Ok(Some(constant(alloc, value)?))
 }
 
 /// What is left of a template once arguments are in their places.

@@ -1,4 +1,4 @@
-ghost use Rattle.std.specs.Prelude.{◌≡◌, ℕ, List, ◌∷◌, [], ◌++◌, true, map, IfOk, OnOk};
+ghost use Rattle.std.specs.Prelude.{◌≡◌, ℕ, List, ◌∷◌, [], ◌++◌, map, IfOk, IsTrue, OnOk};
 ghost use Rattle.std.specs.List.{IsDistinct};
 ghost use Rattle.std.specs.Map.{keys_of, set_value};
 ghost use Rattle.std.specs.Option.{option_copied};
@@ -76,7 +76,7 @@ fn put_tally(
 
 /// The cells as they are at first.
 fn first_cells(alloc: Global, cells: &[Cell]) -> Result<IndexMap<Vec<u8>, Json>, NoMemory>
-    requires { are_distinct (names_of cells.now) ≡ true }
+    requires { IsTrue (are_distinct (names_of cells.now)) }
     ensures { IfOk result (λ made. held_of (λ key. key.items) made.entries ≡
         map (λ (c : Cell). record { name = c.name; value = c.first }) cells.now) }
 {
@@ -90,7 +90,7 @@ fn first_cells(alloc: Global, cells: &[Cell]) -> Result<IndexMap<Vec<u8>, Json>,
 
 /// The tallies, each 0.
 fn first_tallies(alloc: Global, tallies: &[Text]) -> Result<IndexMap<Vec<u8>, u64>, NoMemory>
-    requires { are_distinct tallies.now ≡ true }
+    requires { IsTrue (are_distinct tallies.now) }
     ensures { IfOk result (λ made. counts_of (λ key. key.items) made.entries ≡
         map (λ (name : List ℕ). record { name = name; count = 0 }) tallies.now) }
 {
@@ -129,8 +129,8 @@ impl Store {
 
     /// The store of these cells with their first values, and of tallies of 0 of these names.
     pub fn new(alloc: Global, cells: &[Cell], tallies: &[Text]) -> Result<Store, NoMemory>
-        requires cells { are_distinct (names_of cells.now) ≡ true }
-        requires tallies { are_distinct tallies.now ≡ true }
+        requires cells { IsTrue (are_distinct (names_of cells.now)) }
+        requires tallies { IsTrue (are_distinct tallies.now) }
         ensures { IfOk result (λ store. store ≡ first_of cells.now tallies.now) }
     {
         let cells = first_cells(alloc, cells)?;
