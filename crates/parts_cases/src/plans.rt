@@ -112,7 +112,10 @@ fn facts(alloc: Global) -> Result<Facts, Fail> {
 
 fn call(alloc: Global, request: Json) -> Result<Call, Fail> {
     let request = Shared::new(alloc, request)?;
-    Ok(Call { command: 0, request })
+    Ok(Call {
+        command: 0,
+        request,
+    })
 }
 
 fn note_value(text: &mut Text, value: &Json) -> Result<(), Fail> {
@@ -283,7 +286,10 @@ fn a_tally_is_full_at_2_to_the_63(rt: HostRuntime) -> Result<(), Fail> {
     let mut changes = StoreChangeList::new(rt.alloc());
     changes.push(almost_full(rt.alloc())?)?;
     store.commit(changes);
-    assert_eq!(rt; other_answers(rt.alloc(), &mut store, FULL_TALLY)?.as_str(), "");
+    assert_eq!(rt;
+        other_answers(rt.alloc(), &mut store, FULL_TALLY)?.as_str(),
+        ""
+    );
     Ok(())
 }
 

@@ -114,12 +114,20 @@ fn raise(alloc: Global, value: &Json) -> Result<Act, Fail> {
 fn start(alloc: Global, value: &Json) -> Result<Act, Fail> {
     let id = template(alloc, member(value, "start")?)?;
     let units = number_of(member(value, "units")?)?;
-    Ok(Act::Start { id, units, ready: true, manual: false })
+    Ok(Act::Start {
+        id,
+        units,
+        ready: true,
+        manual: false,
+    })
 }
 
 fn cancel(alloc: Global, value: &Json) -> Result<Act, Fail> {
     let id = template(alloc, member(value, "cancel")?)?;
-    Ok(Act::OnJob { verb: Verb::Cancel, id })
+    Ok(Act::OnJob {
+        verb: Verb::Cancel,
+        id,
+    })
 }
 
 fn fail(alloc: Global, value: &Json) -> Result<Act, Fail> {
@@ -163,5 +171,9 @@ fn acts(alloc: Global, value: &Json) -> Result<Items<Act>, Fail> {
 pub fn recipe(alloc: Global, value: &Json) -> Result<Recipe, Fail> {
     let acts = acts(alloc, member(value, "acts")?)?;
     let ret = template(alloc, member(value, "return")?)?;
-    Ok(Recipe { acts, ret, waiting: Waiting::No })
+    Ok(Recipe {
+        acts,
+        ret,
+        waiting: Waiting::No,
+    })
 }

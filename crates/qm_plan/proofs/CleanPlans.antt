@@ -1,11 +1,11 @@
 -- Clean recipes and arguments give clean plans.
-use Rattle.std.proofs.Common.{◌≡◌, ℕ, Bool, true, false, cond, not, ◌&&◌, ◌||◌, List, [], ◌∷◌, codes, map, find, Option, Some, None, option_map, unwrap_or, refl, ap, sym, ◌∙◌}
-use Rattle.std.specs.{List.AllByRecursion, List.cons_option, List.filter_map, List.list_all, List.list_any, Option.option_and_then, Option.option_map_or, Str.bytes_eq, Str.is_utf8}
+use Rattle.std.proofs.Common.{◌≡◌, ℕ, Bool, true, false, cond, not, List, [], ◌∷◌, codes, map, find, Option, Some, None, option_map, unwrap_or, refl, ap, sym, ◌∙◌}
+use Rattle.std.specs.{List.AllByRecursion, List.cons_option, List.filter_map, List.list_all, List.list_any, Option.option_map_or, Str.bytes_eq, Str.is_utf8}
 use Rattle.std.proofs.lemmas.{Bool.and_from, Bool.and_parts, Bool.or_from, Bool.or_parts, Bool.not-true}
 use Rattle.qm_json.specs.{declared.value.Json.Json, declared.value.Member.Member, Cleanness.are_distinct, Cleanness.is_clean, Cleanness.is_clean_member as clean_json_member, Members.layer_members, Members.member_of, Members.members_of, Members.value_in}
 use Rattle.qm_json.specs.declared.value.Json.TheVariants as json
 use Rattle.qm_json.specs.declared.value.Json.TheViews.{outs-Null, outs-Bool, outs-Int, outs-Num, outs-Str, outs-Arr, outs-Obj}
-use Rattle.qm_json.proofs.{CleanLaws.is_clean-Obj, CleanLaws.is_clean_member-is as json_member-is, Inductions.Inductive as JsonInductive, Inductions.every-Json}
+use Rattle.qm_json.proofs.{CleanLaws.is_clean-Obj, CleanLaws.is_clean_member-is as json_member-is, Inductions.every-Json}
 use Rattle.qm_plan.specs.{Cleanness.is_clean_act, Cleanness.is_clean_member, Cleanness.is_clean_template, Cleanness.IsCleanPlan, Cleanness.IsCleanRecipe, Plans.arguments_of, Plans.filled_act, Plans.filled_or_empty, Plans.given_arguments, Plans.no_members, Plans.plan_of}
 use Rattle.qm_plan.specs.Templates.{filled, filled_layer, filled_member, filled_member_layer}
 use Rattle.qm_plan.specs.declared.{calls.Call.Call, recipes.Act.Act, recipes.Recipe.Recipe, templates.Template.Template, templates.TemplateMember.TemplateMember}
@@ -14,7 +14,7 @@ use Rattle.qm_plan.specs.declared.templates.Template.{TheFolds.fold-roll-Templat
 use Rattle.qm_plan.specs.declared.templates.Template.TheVariants as template
 use Rattle.qm_plan.specs.declared.templates.Template.TheVariants.{rolls-Const, rolls-Arg, rolls-Args, rolls-Cell, rolls-Tally, rolls-Version, rolls-Commands, rolls-Introspection, rolls-Jobs}
 use Rattle.qm_plan.specs.declared.templates.Template.TheOpen as layer
-use Rattle.qm_plan.proofs.{FillLaws.filled-Array, FillLaws.filled-Object, Inductions.Inductive, Inductions.every-Template, Inductions.is_clean-Array, Inductions.is_clean-Const, Inductions.is_clean-Object, Inductions.is_clean_member-is}
+use Rattle.qm_plan.proofs.{FillLaws.filled-Array, FillLaws.filled-Object, Inductions.every-Template, Inductions.is_clean-Array, Inductions.is_clean-Const, Inductions.is_clean-Object, Inductions.is_clean_member-is}
 
 -- what a clean object holds is clean
 holds-clean : (members : List Member) (name : List ℕ) (w : Json) → list_all clean_json_member members ≡ true → value_in members name ≡ Some w → is_clean w ≡ true
@@ -47,7 +47,7 @@ member-clean v name w h is = every-Json HoldsClean record {
   string = λ bytes. no-members (json.Str bytes) (ap layer_members (outs-Str bytes));
   array = λ items all. no-members (json.Arr items) (ap layer_members (outs-Arr items));
   object = λ members all h name w is.
-    holds-clean members name w (and_parts _ _ (sym (is_clean-Obj members) ∙ h)).1 (ap (λ (l : List Member). value_in l name) (sym (ap layer_members (outs-Obj members))) ∙ is);
+      holds-clean members name w (and_parts _ _ (sym (is_clean-Obj members) ∙ h)).1 (ap (λ (l : List Member). value_in l name) (sym (ap layer_members (outs-Obj members))) ∙ is);
 } v h name w is
 
 abbrev left : Option Template → Bool
@@ -123,8 +123,8 @@ module _ (arguments : Json) (clean : is_clean arguments ≡ true) where
     cell = λ name h. ap left (ap (filled arguments) (sym (rolls-Cell name)) ∙ fold-roll-Template (Option Template) (Option TemplateMember) (filled_layer arguments) filled_member_layer (layer.Template-F.Cell name)) ∙ h;
     tally = λ name h. ap left (ap (filled arguments) (sym (rolls-Tally name)) ∙ fold-roll-Template (Option Template) (Option TemplateMember) (filled_layer arguments) filled_member_layer (layer.Template-F.Tally name)) ∙ h;
     object = λ members all h.
-      (let parts = and_parts _ _ (sym (is_clean-Object members) ∙ h) in
-      ap left (filled-Object arguments members) ∙ is_clean-Object (filter_map (filled_member arguments) members) ∙ and_from _ _ (distinct-left members parts.0) (members-left members all parts.1));
+        (let parts = and_parts _ _ (sym (is_clean-Object members) ∙ h) in
+        ap left (filled-Object arguments members) ∙ is_clean-Object (filter_map (filled_member arguments) members) ∙ and_from _ _ (distinct-left members parts.0) (members-left members all parts.1));
     array = λ items all h. ap left (filled-Array arguments items) ∙ is_clean-Array (filter_map (filled arguments) items) ∙ items-left items all (sym (is_clean-Array items) ∙ h);
     version = λ h. ap left (ap (filled arguments) (sym rolls-Version) ∙ fold-roll-Template (Option Template) (Option TemplateMember) (filled_layer arguments) filled_member_layer layer.Template-F.Version) ∙ h;
     commands = λ h. ap left (ap (filled arguments) (sym rolls-Commands) ∙ fold-roll-Template (Option Template) (Option TemplateMember) (filled_layer arguments) filled_member_layer layer.Template-F.Commands) ∙ h;

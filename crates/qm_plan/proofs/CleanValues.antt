@@ -1,5 +1,5 @@
 -- Clean plans, stores and facts give clean values.
-use Rattle.std.proofs.Common.{◌≡◌, ℕ, ◌+◌, Bool, true, false, cond, List, [], ◌∷◌, map, find, Option, Some, None, option_map, unwrap_or, Result, Ok, Err, refl, ap, sym, ◌∙◌, subst, arith}
+use Rattle.std.proofs.Common.{◌≡◌, ℕ, ◌+◌, Bool, true, false, cond, List, [], ◌∷◌, map, find, Option, Some, None, option_map, unwrap_or, Result, Ok, Err, refl, ap, sym, ◌∙◌, arith}
 use Rattle.std.specs.Prelude.{nat_le, nat_lt, pos}
 use Rattle.std.specs.{List.AllByRecursion, List.cons_option, List.filter_map, List.list_all, Option.option_map_or, Str.bytes_eq, Str.is_utf8}
 use Rattle.std.proofs.lemmas.{Bool.and_from, Bool.and_parts, Bool.Decides.nat_tests}
@@ -7,17 +7,16 @@ use Rattle.qm_json.specs.{declared.value.Json.Json, declared.value.Member.Member
 use Rattle.qm_json.specs.declared.value.Json.TheVariants as json
 use Rattle.qm_json.proofs.CleanLaws.{is_clean-Null, is_clean-Int, is_clean-Arr, is_clean-Obj, is_clean_member-is as json_member-is}
 use Rattle.qm_plan.specs.{Cleanness.is_clean_act, Cleanness.is_clean_member, Cleanness.is_clean_template, Cleanness.IsCleanFacts, Cleanness.IsCleanFault, Cleanness.IsCleanOutcome, Cleanness.IsCleanPlan, Cleanness.IsCleanStore}
-use Rattle.qm_plan.specs.{Applying.act_of, Applying.acts_of, Applying.applied_of, Applying.job_act_of, Applying.Outcome, Applying.outcome_from, Applying.payload_of, Applying.raised_of, Applying.then_acts}
-use Rattle.qm_plan.specs.{Plans.no_members, Stores.Contents, Stores.Count, Stores.Held, Stores.cell_of, Stores.set_cell, Stores.set_tally, Stores.tally_of, Stores.with_cell, Stores.with_tally}
+use Rattle.qm_plan.specs.{Applying.act_of, Applying.acts_of, Applying.applied_of, Applying.job_act_of, Applying.Outcome, Applying.outcome_from, Applying.raised_of, Applying.then_acts}
+use Rattle.qm_plan.specs.{Stores.Contents, Stores.Count, Stores.Held, Stores.set_cell, Stores.set_tally, Stores.tally_of, Stores.with_tally}
 use Rattle.qm_plan.specs.Templates.{value_layer, value_member_layer, value_of, value_of_member}
 use Rattle.qm_plan.specs.declared.{applied.ApplyFault.ApplyFault, events.Raised.Raised, facts.Facts.Facts, recipes.Act.Act, recipes.Plan.Plan, templates.Template.Template, templates.TemplateMember.TemplateMember, TheConstants.MOST_COUNT}
 use Rattle.qm_plan.specs.declared.applied.ApplyFault.TheVariants.{TallyFull}
 use Rattle.qm_plan.specs.declared.recipes.Act.TheVariants as act
 use Rattle.qm_plan.specs.declared.templates.Template.{TheFolds.fold-roll-Template, TheFolds.fold-roll-TemplateMember, TheOpen.Template-F}
-use Rattle.qm_plan.specs.declared.templates.Template.TheVariants as template
 use Rattle.qm_plan.specs.declared.templates.Template.TheVariants.{rolls-Const, rolls-Arg, rolls-Args, rolls-Cell, rolls-Tally, rolls-Object, rolls-Array, rolls-Version, rolls-Commands, rolls-Introspection, rolls-Jobs}
 use Rattle.qm_plan.specs.declared.templates.Template.TheOpen as layer
-use Rattle.qm_plan.proofs.Inductions.{Inductive, every-Template, is_clean-Array, is_clean-Const, is_clean-Object, is_clean_member-is}
+use Rattle.qm_plan.proofs.Inductions.{every-Template, is_clean-Array, is_clean-Const, is_clean-Object, is_clean_member-is}
 
 counted-in-range : (n : ℕ) → nat_le n MOST_COUNT ≡ true → is_in_whole_range (pos n) ≡ true
 counted-in-range n h = grind (arith, nat_tests)
@@ -105,9 +104,9 @@ module _ (facts : Facts) (known : IsCleanFacts facts) where
       tally = λ name h. ap is_clean (ap (value_of facts store) (sym (rolls-Tally name)) ∙ fold-roll-Template Json Member (value_layer facts store) value_member_layer (layer.Template-F.Tally name))
           ∙ is_clean-Int _ ∙ counted-in-range (unwrap_or (tally_of name store) 0) (count-small store.tallies name kept.tallies);
       object = λ members all h.
-        (let parts = and_parts _ _ (sym (is_clean-Object members) ∙ h) in
-        ap is_clean (ap (value_of facts store) (sym (rolls-Object members)) ∙ fold-roll-Template Json Member (value_layer facts store) value_member_layer (layer.Template-F.Object members))
-        ∙ is_clean-Obj (map (value_of_member facts store) members) ∙ and_from _ _ (ap are_distinct (value-names members) ∙ parts.0) (members-valued members all parts.1));
+          (let parts = and_parts _ _ (sym (is_clean-Object members) ∙ h) in
+          ap is_clean (ap (value_of facts store) (sym (rolls-Object members)) ∙ fold-roll-Template Json Member (value_layer facts store) value_member_layer (layer.Template-F.Object members))
+          ∙ is_clean-Obj (map (value_of_member facts store) members) ∙ and_from _ _ (ap are_distinct (value-names members) ∙ parts.0) (members-valued members all parts.1));
       array = λ items all h. ap is_clean (ap (value_of facts store) (sym (rolls-Array items)) ∙ fold-roll-Template Json Member (value_layer facts store) value_member_layer (layer.Template-F.Array items))
           ∙ is_clean-Arr (map (value_of facts store) items) ∙ items-valued items all (sym (is_clean-Array items) ∙ h);
       version = λ h. ap is_clean (ap (value_of facts store) (sym rolls-Version) ∙ fold-roll-Template Json Member (value_layer facts store) value_member_layer layer.Template-F.Version) ∙ known.version;

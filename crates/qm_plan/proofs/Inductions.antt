@@ -1,5 +1,5 @@
 -- Properties that pass from the parts of a template to the template, and what is asked of a clean template, layer by layer.
-use Rattle.std.proofs.Common.{◌≡◌, ℕ, Bool, true, ◌&&◌, List, [], ◌∷◌, map, refl, ap, sym, ◌∙◌, subst}
+use Rattle.std.proofs.Common.{◌≡◌, ℕ, Bool, ◌&&◌, List, [], ◌∷◌, map, refl, ap, sym, ◌∙◌, subst}
 use Rattle.std.specs.{List.AllByRecursion, List.list_all, Str.is_utf8}
 use Rattle.std.proofs.lemmas.List.Folds.{list_all-map}
 use Rattle.qm_json.specs.{declared.value.Json.Json, Cleanness.NameAndTest, Cleanness.are_distinct, Cleanness.is_clean}
