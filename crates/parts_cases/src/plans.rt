@@ -303,6 +303,9 @@ fn a_plan_without_arguments(rt: HostRuntime) -> Result<(), Fail> {
     };
     let plan = plan_with(rt.alloc(), &recipe, None)?;
     let mut store = store(rt.alloc())?;
-    assert_eq!(rt; done(rt.alloc(), &mut store, &plan)?.as_slice(), b"{}");
+    assert_eq!(rt;
+        done(rt.alloc(), &mut store, &plan)?.as_slice(),
+        b"{}".as_slice()
+    );
     Ok(())
 }
