@@ -1,12 +1,8 @@
-//! Worked examples of turns, jobs, plans and throttled events, given to the calls directly. Tests alone.
+//! Worked examples of turns, jobs and throttled events, given to the calls directly. Tests alone.
 #![tactic(auto)]
 
 #[cfg(test)]
 mod jobs;
-#[cfg(test)]
-mod plans;
-#[cfg(test)]
-mod recipes;
 #[cfg(test)]
 mod throttling;
 #[cfg(test)]
