@@ -1,6 +1,5 @@
 -- What a bind file binds the commands of a schema to, or its first fault (this project's own rule).
 use Rattle.std.specs.Prelude.{ℕ, List, [], map, Option, Some, None, option_and_then, unwrap_or, Result, Ok, Err}
-use Rattle.std.specs.{Option.option_or}
 use Rattle.qm_json.specs.declared.value.{Json.Json, Member.Member}
 use Rattle.qm_json.specs.Members.{value_in}
 use Rattle.qm_read.specs.{Faults.reading_of, declared.fault.JsonFault.JsonFault}
@@ -10,10 +9,17 @@ use Rattle.qm_bind.specs.declared.binding.Binding.{Binding}
 use Rattle.qm_bind.specs.declared.fault.{BindFault.BindFault, BindRule.TheVariants.BadRecipe, BindRule.TheVariants.Memory, BindRule.TheVariants.NotJson}
 use Rattle.qm_bind.specs.{Faults.fault, Faults.file_fault, Faults.scope_of, Parts.FileParts, Parts.names_of, Parts.parts_of, Recipes.plain_recipe, Recipes.recipe_of, Standing.standing_recipe}
 
+-- the recipe of a command of which the file says nothing
+abbrev pub default_recipe : CommandDef → Recipe
+default_recipe command = unwrap_or (standing_recipe command.name) plain_recipe
+
+-- the recipe that is given for a command
+abbrev pub given_recipe : Parts → FileParts → List Member → CommandDef → Option Recipe
+given_recipe p file given command = option_and_then (recipe_of (scope_of p file command)) (value_in given command.name)
+
 -- the recipe that stands for a command, else the one that is given for it, else the plain one
 abbrev pub recipe_for : Parts → FileParts → List Member → CommandDef → Recipe
-recipe_for p file given command =
-    unwrap_or (option_or (standing_recipe command.name) (option_and_then (recipe_of (scope_of p file command)) (value_in given command.name))) plain_recipe
+recipe_for p file given command = unwrap_or (standing_recipe command.name) (unwrap_or (given_recipe p file given command) plain_recipe)
 
 abbrev pub recipes_for : Parts → FileParts → List Member → List Recipe
 recipes_for p file given = map (recipe_for p file given) p.commands

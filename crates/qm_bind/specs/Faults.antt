@@ -55,6 +55,10 @@ abbrev pub events_fault : List Member → Option BindFault
 events_fault [] = None
 events_fault (m ∷ members) = Some (fault BadPeriod m.name)
 
+-- the first fault of the recipes, and what follows them
+abbrev pub later_fault : Parts → FileParts → Option BindFault
+later_fault p file = option_or (commands_fault p file file.commands) (events_fault file.events)
+
 -- the first fault of a file that has these parts
 abbrev pub file_fault : Parts → FileParts → Option BindFault
-file_fault p file = option_or (tally_fault file) (option_or (commands_fault p file file.commands) (events_fault file.events))
+file_fault p file = option_or (tally_fault file) (later_fault p file)

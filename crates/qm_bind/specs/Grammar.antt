@@ -47,15 +47,20 @@ abbrev pub each_of : {A : Type 0} → List (Option A) → Option (List A)
 each_of [] = Some []
 each_of (x ∷ xs) = with_each x (each_of xs)
 
+-- a template of an argument, a cell or a tally
+abbrev pub naming_template : Scope → List ℕ → Json → Option Template
+naming_template scope name value =
+    if bytes_eq name (codes "arg") then option_map template.Arg (known_name scope.is_argument value)
+    else if bytes_eq name (codes "cell") then option_map template.Cell (known_name scope.is_cell value)
+    else if bytes_eq name (codes "tally") then option_map template.Tally (known_name scope.is_tally value)
+    else None
+
 -- a template without others inside, by the name and the value of its member
 abbrev pub simple_template : Scope → List ℕ → Json → Option Template
 simple_template scope name value =
     if bytes_eq name (codes "const") then Some (template.Const value)
-    else if bytes_eq name (codes "arg") then option_map template.Arg (known_name scope.is_argument value)
     else if bytes_eq name (codes "args") then (if is_true value then Some template.Args else None)
-    else if bytes_eq name (codes "cell") then option_map template.Cell (known_name scope.is_cell value)
-    else if bytes_eq name (codes "tally") then option_map template.Tally (known_name scope.is_tally value)
-    else None
+    else naming_template scope name value
 
 -- what the layer above asks of a value: the value, the template that it is, and those that its items or members are
 pub record Reading : Type 0 where

@@ -1,9 +1,9 @@
 -- The parts of a bind file (this project's own rule).
-use Rattle.std.specs.Prelude.{ℕ, Bool, if◌then◌else◌, List, [], ◌∷◌, codes, is_some, Option, Some, None, option_and_then}
-use Rattle.std.specs.List.{filter_map, list_all}
+use Rattle.std.specs.Prelude.{ℕ, Bool, false, if◌then◌else◌, List, [], ◌∷◌, codes, is_some, Option, Some, None, option_and_then}
+use Rattle.std.specs.{List.filter_map, List.list_all, Option.option_map_or}
 use Rattle.qm_base.specs.Names.{is_named}
 use Rattle.qm_json.specs.declared.value.{Json.Json, Member.Member}
-use Rattle.qm_json.specs.Members.{value_in}
+use Rattle.qm_json.specs.Members.{member_of}
 use Rattle.qm_bind.specs.{Grammar.text_of, Recipes.object_of, Recipes.array_of}
 
 -- its cells with their first values, its tallies, its recipes by the names of commands, and what it says of events
@@ -36,15 +36,19 @@ parts_from cells tallies commands events = None
 abbrev pub is_part_name : List ℕ → Bool
 is_part_name name = is_named (codes "cells" ∷ codes "tallies" ∷ codes "commands" ∷ codes "events" ∷ []) name
 
-abbrev pub parts_in : List Member → Option FileParts
-parts_in members =
-    if list_all (λ (m : Member). is_part_name m.name) members
-    then parts_from (members_given (value_in members (codes "cells"))) (texts_given (value_in members (codes "tallies"))) (members_given (value_in members (codes "commands"))) (members_given (value_in members (codes "events")))
-    else None
+abbrev pub are_part_names : List Member → Bool
+are_part_names members = list_all (λ (m : Member). is_part_name m.name) members
+
+-- the value is an object of the known members
+abbrev pub is_file_object : Json → Bool
+is_file_object value = option_map_or are_part_names (object_of value) false
 
 -- the parts of the file that a value is
 abbrev pub parts_of : Json → Option FileParts
-parts_of value = option_and_then parts_in (object_of value)
+parts_of value =
+    if is_file_object value
+    then parts_from (members_given (member_of value (codes "cells"))) (texts_given (member_of value (codes "tallies"))) (members_given (member_of value (codes "commands"))) (members_given (member_of value (codes "events")))
+    else None
 
 abbrev pub names_of : List Json → List (List ℕ)
 names_of items = filter_map text_of items

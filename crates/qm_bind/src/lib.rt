@@ -2,15 +2,20 @@
 //! project's own rule.
 #![tactic(auto)]
 
-pub mod acts;
-pub mod arguments;
+mod acts;
+mod arguments;
 pub mod binding;
+mod checking;
+mod commands;
 pub mod fault;
-pub mod parts;
-pub mod recipes;
-pub mod scope;
-pub mod standing;
-pub mod templates;
+mod names;
+mod parts;
+mod recipes;
+mod scope;
+mod standing;
+mod templates;
+mod values;
 
+pub use checking::bind;
 pub use binding::{Binding, RecipeList};
 pub use fault::{BindFault, BindRule};
