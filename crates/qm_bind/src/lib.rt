@@ -8,6 +8,7 @@ pub mod binding;
 mod checking;
 mod commands;
 pub mod fault;
+mod laws;
 mod names;
 mod parts;
 mod recipes;
@@ -18,4 +19,5 @@ mod values;
 
 pub use checking::bind;
 pub use binding::{Binding, RecipeList};
+pub use laws::each_argument_is_a_member;
 pub use fault::{BindFault, BindRule};

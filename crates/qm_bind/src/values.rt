@@ -2,7 +2,7 @@ ghost use Rattle.std.specs.Prelude.{◌≡◌, Some, None, IfSome, IfNone, IfOk,
 ghost use Rattle.std.specs.Option.{option_copied};
 ghost use Rattle.qm_json.specs.Members.{members_of};
 ghost use Rattle.qm_bind.specs.Grammar.{is_true as is_true_value, text_of as text_in, known_name};
-ghost use Rattle.qm_bind.specs.Recipes.{array_of as array_in, object_of as object_in, only_in, only_two_in};
+ghost use Rattle.qm_bind.specs.Recipes.{array_of as array_in, object_of as object_in, both_in, only_in, only_two_in};
 ghost use Rattle.qm_bind.specs.Walks.{scope_in, seen_pair};
 
 use crate::scope::Names;

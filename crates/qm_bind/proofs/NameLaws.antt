@@ -1,0 +1,2 @@
+-- Sets of names, and names that stand twice.
+use Rattle.std.proofs.Common.{◌≡◌, ℕ}

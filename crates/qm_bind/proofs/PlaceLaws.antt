@@ -1,0 +1,2 @@
+-- Recipes in their places.
+use Rattle.std.proofs.Common.{◌≡◌, ℕ}
