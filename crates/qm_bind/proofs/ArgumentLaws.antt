@@ -1,6 +1,6 @@
 -- Which arguments may be given.
-use Rattle.std.proofs.Common.{◌≡◌, ℕ, zero, suc, ◌+◌, ◌<◌, ◌≤◌, Bool, true, false, ◌||◌, eqb, eqb-true, eq-eqb, nat_eq, List, [], ◌∷◌, ◌++◌, map, length, get_or, refl, ap, sym, ◌∙◌, subst, inl, inr, ◌⊎◌, arith}
-use Rattle.std.proofs.lemmas.{Bool.cases_lt, Bool.or_parts, Bool.false_from_ne_true, List.get_or_past, Map.Steps.length-le_from_distinct_below}
+use Rattle.std.proofs.Common.{◌≡◌, ℕ, zero, suc, ◌+◌, ◌<◌, ◌≤◌, Bool, true, false, ◌||◌, eqb, eqb-true, eq-eqb, nat_eq, List, [], ◌∷◌, ◌++◌, map, take, length, get_or, refl, ap, sym, ◌∙◌, subst, inl, inr, ◌⊎◌, arith}
+use Rattle.std.proofs.lemmas.{Bool.cases_lt, Bool.or_parts, Bool.false_from_ne_true, List.append-nil, List.append_assoc, List.get_or_past, Map.Steps.length-le_from_distinct_below}
 use Rattle.std.proofs.Math.ListN.{get_or-map}
 use Rattle.std.specs.List.{list_any, IsDistinct, AllByRecursion}
 use Rattle.qm_base.specs.Names.{is_named}
@@ -15,7 +15,7 @@ use Rattle.qapi_types.specs.Chains.{has, row_of, Refers, Leads, by_one, and_one,
 use Rattle.qapi_types.proofs.ChainLaws.{either, left, right}
 use Rattle.qm_bind.specs.declared.arguments.Arguments.{Arguments, TheVariants.Any, TheVariants.Of}
 use Rattle.qm_bind.specs.Arguments.{MayHave, own, of_branch, may_have, may_have_within, may_give}
-use Rattle.qm_bind.specs.Walks.{AreAlong, Takes, takes, marked_from}
+use Rattle.qm_bind.specs.Walks.{AreAlong, Takes, takes, marked_from, where_marked}
 
 row-is : (table : List Kind) (t : ℕ) → row_of (map branch_types table) t ≡ branch_types (kind_of table t)
 row-is table t = get_or-map branch_types table t kinds.Null
@@ -187,3 +187,19 @@ along-marked graph t marks single all r o e =
 pub may_have_is : (p : Parts) (t : ℕ) (name : List ℕ) → IsGood p → (may_have p.kinds t name ≡ true) ↔ MayHave p.kinds name t
 unfolding may_have
 may_have_is p t name g = (have-within p.kinds name (length p.kinds) t, found p.kinds g.cycles name t)
+
+marked-on : (n i : ℕ) (marks : List Bool) → i < length marks → marked_from n (take (suc i) marks) ≡ marked_from n (take i marks) ++ where_marked (n + i) (marked marks i)
+marked-on n i [] l = absurd (omega arith)
+marked-on n zero (mark ∷ marks) l = append-nil (where_marked n mark) ∙ ap (λ (k : ℕ). where_marked k mark) (let e : n ≡ n + 0 = omega arith in e)
+marked-on n (suc i) (mark ∷ marks) l =
+    ap (λ (xs : List ℕ). where_marked n mark ++ xs) (marked-on (n + 1) i marks (omega (arith, l)) ∙ ap (λ (k : ℕ). marked_from (n + 1) (take i marks) ++ where_marked k (marked marks i)) (let e : n + 1 + i ≡ n + suc i = omega arith in e))
+    ∙ sym (append_assoc (where_marked n mark) (marked_from (n + 1) (take i marks)) (where_marked (n + suc i) (marked marks i)))
+
+-- the numbers of one more mark
+pub marked-more : (types more front : List ℕ) (i : ℕ) (marks : List Bool) (mark : Bool) → i < length marks → mark ≡ marked marks i → types ≡ front ++ marked_from 0 (take i marks) → more ≡ types ++ where_marked i mark → more ≡ front ++ marked_from 0 (take (i + 1) marks)
+marked-more types more front i marks mark l m t e =
+    e ∙ ap (λ (xs : List ℕ). xs ++ where_marked i mark) t ∙ append_assoc front (marked_from 0 (take i marks)) (where_marked i mark)
+    ∙ ap (λ (b : Bool). front ++ (marked_from 0 (take i marks) ++ where_marked i b)) m
+    ∙ ap (λ (k : ℕ). front ++ (marked_from 0 (take i marks) ++ where_marked k (marked marks i))) (let z : i ≡ 0 + i = omega arith in z)
+    ∙ ap (λ (xs : List ℕ). front ++ xs) (sym (marked-on 0 i marks l))
+    ∙ ap (λ (k : ℕ). front ++ marked_from 0 (take k marks)) (let z : suc i ≡ i + 1 = omega arith in z)

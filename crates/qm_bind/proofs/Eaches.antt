@@ -29,3 +29,8 @@ each_map_none {X} {A} f (z ∷ xs) (suc i) x l at is = ap (with_each (f z)) (eac
 
 pub each_map_all : {X A : Type 0} (f : X → Option A) (xs : List X) (i : ℕ) (made : List A) → length xs ≤ i → each_of (map f (take i xs)) ≡ Some made → each_of (map f xs) ≡ Some made
 each_map_all {X} f xs i made l h = ap (λ (zs : List X). each_of (map f zs)) (sym (take_all xs i l)) ∙ h
+
+-- what is not there
+pub none_if_not : {A : Type 0} (o : Option A) → ((x : A) → o ≡ Some x → ⊥) → o ≡ None
+none_if_not None no = refl
+none_if_not (Some x) no = absurd (no x refl)

@@ -1,5 +1,5 @@
 -- What walks through a value tell. This serves private functions.
-use Rattle.std.specs.Prelude.{◌≡◌, ◌+◌, Result, Ok, Err, slice_set, ◌⊎◌, ℕ, Bool, true, if◌then◌else◌, List, [], ◌∷◌, map, codes, Option, Some, None, option_map, option_and_then}
+use Rattle.std.specs.Prelude.{◌≡◌, ◌+◌, Result, Ok, Err, slice_set, ◌⊎◌, ℕ, Bool, true, if◌then◌else◌, List, [], ◌∷◌, ◌++◌, map, codes, Option, Some, None, option_map, option_and_then}
 use Rattle.std.specs.{List.list_any, Str.bytes_eq}
 use Rattle.qm_base.specs.Names.{is_named}
 use Rattle.qm_json.specs.declared.value.{Json.Json, Json.out-Json, Member.Member, Json.TheOpen.Json-F}
@@ -64,10 +64,14 @@ abbrev pub takes : List Kind → Arguments → List ℕ → Bool
 takes table Any name = true
 takes table (Of types) name = list_any (λ t. is_named (member_names (kind_of table t)) name) types
 
+-- the number, where it is marked
+abbrev pub where_marked : ℕ → Bool → List ℕ
+where_marked n mark = if mark then n ∷ [] else []
+
 -- the numbers at which marks stand; the first mark's number is given
 abbrev pub marked_from : ℕ → List Bool → List ℕ
 marked_from n [] = []
-marked_from n (mark ∷ marks) = if mark then n ∷ marked_from (n + 1) marks else marked_from (n + 1) marks
+marked_from n (mark ∷ marks) = where_marked n mark ++ marked_from (n + 1) marks
 
 -- the types are the one of the number and those that its branches lead to
 pub record AreAlong (graph : List (List ℕ)) (t : ℕ) (types : List ℕ) : Type 0 where

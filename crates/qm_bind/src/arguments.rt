@@ -1,8 +1,8 @@
-ghost use Rattle.std.specs.Prelude.{◌≡◌, ◌<◌, ◌++◌, ◌^◌, map, length, IfOk};
+ghost use Rattle.std.specs.Prelude.{◌≡◌, ◌<◌, ◌++◌, ◌^◌, map, length, IfOk, OnOk};
 ghost use Rattle.qapi_types.specs.Chains.{IsInside, NoneOnCycle};
 ghost use Rattle.qapi_types.specs.Goodness.{TakesBelow};
 ghost use Rattle.qapi_types.specs.Types.{branch_types};
-ghost use Rattle.qm_bind.specs.Walks.{AreAlong, Takes, marked_from};
+ghost use Rattle.qm_bind.specs.Walks.{AreAlong, Takes, marked_from, where_marked};
 
 use qapi_types::{ArgType, Kind, TypeList, reached};
 use qm_base::NoMemory;
@@ -17,15 +17,20 @@ pub enum Arguments {
     Of(TypeList),
 }
 
+/// Appends a number, where it is marked.
+fn add_marked(types: &mut TypeList, number: u32, mark: bool) -> Result<(), NoMemory>
+    ensures { OnOk result (types.new ≡ types.old ++ where_marked number mark) }
+{
+    if mark { types.push(number) } else { Ok(()) }
+}
+
 /// The types, and after them those that are marked.
 fn with_marked(mut types: TypeList, marks: &[bool]) -> Result<TypeList, NoMemory>
     requires { length marks.now < 2 ^ 32 }
     ensures { IfOk result (λ all. all ≡ types ++ marked_from 0 marks.now) }
 {
     for number in 0..marks.len() {
-        if marks[number] {
-            types.push(number as u32)?;
-        }
+        add_marked(&mut types, number as u32, marks[number])?;
     }
     Ok(types)
 }

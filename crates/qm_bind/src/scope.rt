@@ -30,12 +30,9 @@ fn has_member(schema: &Schema, type_id: u32, name: &[u8]) -> bool
 fn is_member(schema: &Schema, types: &[u32], name: &[u8]) -> bool
     ensures { result ≡ list_any (λ t. is_named (member_names (kind_of schema.now.kinds t)) name.now) types.now }
 {
-    for type_id in types {
-        if has_member(schema, *type_id, name) {
-            return true;
-        }
-    }
-    false
+    types
+        .iter()
+        .any(|type_id| has_member(schema, *type_id, name))
 }
 
 impl<'a, 'b> Names<'a, 'b> {
