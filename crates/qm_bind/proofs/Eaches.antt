@@ -7,11 +7,11 @@ use Rattle.qm_bind.specs.Grammar.{each_of, with_each}
 each-more : {A : Type 0} (xs : List (Option A)) (made : List A) (y : A) → each_of xs ≡ Some made → each_of (xs ++ Some y ∷ []) ≡ Some (made ++ y ∷ [])
 each-more {A} [] made y h = let e : [] ≡ made = cc in ap (λ (l : List A). Some (l ++ y ∷ [])) e
 each-more {A} (None ∷ xs) made y h = absurd cc
-each-more {A} (Some x ∷ xs) made y h = by_rest (each_of xs) refl h
+each-more {A} (Some x ∷ xs) made y h = by_rest (λ rest e. each-more xs rest y e) (each_of xs) refl h
   where
-    by_rest : (o : Option (List A)) → each_of xs ≡ o → with_each (Some x) o ≡ Some made → with_each (Some x) (each_of (xs ++ Some y ∷ [])) ≡ Some (made ++ y ∷ [])
-    by_rest None e h = absurd cc
-    by_rest (Some rest) e h = let k : x ∷ rest ≡ made = cc in ap (with_each (Some x)) (each-more xs rest y e) ∙ ap (λ (l : List A). Some (l ++ y ∷ [])) k
+    by_rest : ((rest : List A) → each_of xs ≡ Some rest → each_of (xs ++ Some y ∷ []) ≡ Some (rest ++ y ∷ [])) → (o : Option (List A)) → each_of xs ≡ o → with_each (Some x) o ≡ Some made → with_each (Some x) (each_of (xs ++ Some y ∷ [])) ≡ Some (made ++ y ∷ [])
+    by_rest more None e h = absurd cc
+    by_rest more (Some rest) e h = let k : x ∷ rest ≡ made = cc in ap (with_each (Some x)) (more rest e) ∙ ap (λ (l : List A). Some (l ++ y ∷ [])) k
 
 pub each_map_more : {X A : Type 0} (f : X → Option A) (xs : List X) (i : ℕ) (x : X) (made : List A) (y : A) → i < length xs → x ≡ get_or xs i x → f x ≡ Some y → each_of (map f (take i xs)) ≡ Some made → each_of (map f (take (i + 1) xs)) ≡ Some (made ++ y ∷ [])
 each_map_more {X} {A} f xs i x made y l at is h =
@@ -28,9 +28,9 @@ each_map_none {X} {A} f (z ∷ xs) (suc i) x l at is = ap (with_each (f z)) (eac
     none (Some y) = refl
 
 pub each_map_all : {X A : Type 0} (f : X → Option A) (xs : List X) (i : ℕ) (made : List A) → length xs ≤ i → each_of (map f (take i xs)) ≡ Some made → each_of (map f xs) ≡ Some made
-each_map_all {X} f xs i made l h = ap (λ (zs : List X). each_of (map f zs)) (sym (take_all xs i l)) ∙ h
+each_map_all {X} f xs i made l h = ap (λ (zs : List X). each_of (map f zs)) (sym (take_all i xs l)) ∙ h
 
 -- what is not there
 pub none_if_not : {A : Type 0} (o : Option A) → ((x : A) → o ≡ Some x → ⊥) → o ≡ None
-none_if_not None no = refl
-none_if_not (Some x) no = absurd (no x refl)
+none_if_not None never = refl
+none_if_not (Some x) never = absurd (never x refl)

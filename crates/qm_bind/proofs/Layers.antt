@@ -126,7 +126,7 @@ template-object scope v members is = template-is scope v ∙ ap (layer_template 
 
 -- what is no object is no template
 pub template-other : (scope : Scope) (v : Json) → ((members : List Member) → v ≡ json.Obj members → ⊥) → template_of scope v ≡ None
-template-other scope v no = template-is scope v ∙ by_layer (out-Json v) refl
+template-other scope v never = template-is scope v ∙ by_layer (out-Json v) refl
   where
     by_layer : (y : Json-F Json Member) → out-Json v ≡ y → layer_template scope y ≡ None
     by_layer layer.Json-F.Null e = refl
@@ -135,4 +135,4 @@ template-other scope v no = template-is scope v ∙ by_layer (out-Json v) refl
     by_layer (layer.Json-F.Num text) e = refl
     by_layer (layer.Json-F.Str bytes) e = refl
     by_layer (layer.Json-F.Arr items) e = refl
-    by_layer (layer.Json-F.Obj members) e = absurd (no members (sym (roll-out-Json v) ∙ ap roll-Json e ∙ rolls-Obj members))
+    by_layer (layer.Json-F.Obj members) e = absurd (never members (sym (roll-out-Json v) ∙ ap roll-Json e ∙ rolls-Obj members))

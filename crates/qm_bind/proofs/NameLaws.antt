@@ -111,3 +111,7 @@ some-from p i (x ∷ xs) = by_case (some-from p (i + 1) xs) (p x)
 -- one passes exactly where there is a first that does
 pub is_some-position : {X : Type 0} (p : X → Bool) (xs : List X) → is_some (position p xs) ≡ list_any p xs
 is_some-position p xs = ap is_some (position_from-zero p xs) ∙ some-from p 0 xs
+
+-- the texts of one more item
+pub pushed-more : (items : List Json) (i : ℕ) (v : Json) (made more : List (List ℕ)) → i < length items → v ≡ get_or items i v → made ≡ names_of (take i items) → more ≡ made ++ names_of (v ∷ []) → more ≡ names_of (take (i + 1) items)
+pushed-more items i v made more l at h e = e ∙ ap (λ (ns : List (List ℕ)). ns ++ names_of (v ∷ [])) h ∙ sym (ap names_of (upto items i v l at) ∙ filter_map-append text_of (take i items) (v ∷ []))

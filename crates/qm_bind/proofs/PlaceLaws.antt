@@ -26,11 +26,11 @@ module _ {A B : Type 0} (key : A → List ℕ) (f g : A → B) (name : List ℕ)
   -- what none of the items has the name of
   map-same : (xs : List A) → times name (map key xs) ≡ 0 → map f xs ≡ map g xs
   map-same [] h = refl
-  map-same (x ∷ xs) h = by_case (bytes_eq name (key x)) refl h
+  map-same (x ∷ xs) h = by_case (map-same xs) (bytes_eq name (key x)) refl h
     where
-      by_case : (b : Bool) → bytes_eq name (key x) ≡ b → cond b 1 0 + times name (map key xs) ≡ 0 → f x ∷ map f xs ≡ g x ∷ map g xs
-      by_case true e h = absurd (omega (arith, h))
-      by_case false e h = λ j. same x e j ∷ map-same xs (omega (arith, h)) j
+      by_case : (times name (map key xs) ≡ 0 → map f xs ≡ map g xs) → (b : Bool) → bytes_eq name (key x) ≡ b → cond b 1 0 + times name (map key xs) ≡ 0 → f x ∷ map f xs ≡ g x ∷ map g xs
+      by_case more true e h = absurd (omega (arith, h))
+      by_case more false e h = λ j. same x e j ∷ more (omega (arith, h)) j
 
   stands-at : (xs : List A) (n : ℕ) (x : A) → slice_get xs n ≡ Some x → bytes_eq name (key x) ≡ true → 1 ≤ times name (map key xs)
   stands-at [] n x at is = absurd cc
@@ -45,11 +45,11 @@ module _ {A B : Type 0} (key : A → List ℕ) (f g : A → B) (name : List ℕ)
       let c : ◌≡◌ {A = ℕ} (cond (bytes_eq name (key y)) 1 0) 1 = ap {B = ℕ} (λ b. cond b 1 0) (ap (λ (z : A). bytes_eq name (key z)) s ∙ is) in
       let rest : map f xs ≡ map g xs = map-same xs (omega (arith, c, once)) in
       λ j. (sym e ∙ ap g (sym s)) j ∷ rest j
-  put-one (y ∷ xs) (suc n) x r at is once e = by_case (bytes_eq name (key y)) refl once
+  put-one (y ∷ xs) (suc n) x r at is once e = by_case (λ o. put-one xs n x r at is o e) (bytes_eq name (key y)) refl once
     where
-      by_case : (b : Bool) → bytes_eq name (key y) ≡ b → cond b 1 0 + times name (map key xs) ≤ 1 → f y ∷ set (map f xs) n r ≡ g y ∷ map g xs
-      by_case true q h = let s = stands-at xs n x at is in absurd (omega (arith, s, h))
-      by_case false q h = λ j. same y q j ∷ put-one xs n x r at is (omega (arith, h)) e j
+      by_case : (times name (map key xs) ≤ 1 → set (map f xs) n r ≡ map g xs) → (b : Bool) → bytes_eq name (key y) ≡ b → cond b 1 0 + times name (map key xs) ≤ 1 → f y ∷ set (map f xs) n r ≡ g y ∷ map g xs
+      by_case more true q h = let s = stands-at xs n x at is in absurd (omega (arith, s, h))
+      by_case more false q h = λ j. same y q j ∷ more (omega (arith, h)) j
 
 or-none : {A : Type 0} (o : Option A) → option_or o None ≡ o
 or-none None = refl
@@ -97,7 +97,7 @@ no-fault p file m h = by_standing (is_some (standing_recipe m.name)) refl h
     by_standing true s h = absurd cc
     by_standing false s h = by_place s (place_of (command_names p) m.name) refl h
 
-none-of : {A : Type 0} (o : Option A) → is_some o ≡ false → o ≡ None
+pub none-of : {A : Type 0} (o : Option A) → is_some o ≡ false → o ≡ None
 none-of None h = refl
 none-of (Some x) h = absurd cc
 

@@ -126,12 +126,12 @@ are_recipe_parts members = list_all (λ (m : Member). is_recipe_part m.name) mem
 abbrev pub is_recipe_object : Json → Bool
 is_recipe_object value = option_map_or are_recipe_parts (object_of value) false
 
+abbrev pub recipe_in : Scope → Json → Option Recipe
+recipe_in scope value = recipe_from (acts_of scope (member_of value (codes "acts"))) (returned_of scope (member_of value (codes "return"))) (waiting_of (member_of value (codes "wait")))
+
 -- the recipe that a value is
 unfoldable pub recipe_of : Scope → Json → Option Recipe
-recipe_of scope value =
-    if is_recipe_object value
-    then recipe_from (acts_of scope (member_of value (codes "acts"))) (returned_of scope (member_of value (codes "return"))) (waiting_of (member_of value (codes "wait")))
-    else None
+recipe_of scope value = if is_recipe_object value then recipe_in scope value else None
 
 -- the recipe of a command of which nothing is said
 abbrev pub plain_recipe : Recipe

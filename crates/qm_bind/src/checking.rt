@@ -1,4 +1,4 @@
-ghost use Rattle.std.specs.Prelude.{◌≡◌, ◌≢◌, [], Ok, Err, None, true, IfOk, IfErr, map, option_map, option_and_then};
+ghost use Rattle.std.specs.Prelude.{◌≡◌, ◌≢◌, [], ◌∷◌, ◌++◌, OnOk, Ok, Err, None, true, IfOk, IfErr, map, option_map, option_and_then};
 ghost use Rattle.qm_json.specs.Cleanness.{IsClean, are_distinct};
 ghost use Rattle.qm_bind.specs.Bindings.{bind_of, binding_of, bound_of, first_cell, no_memory, recipes_for, unless, unthrottled};
 ghost use Rattle.qm_bind.specs.Faults.{commands_fault, events_fault, fault as fault_by, file_fault, later_fault, member_names};
@@ -56,16 +56,26 @@ fn cells(alloc: Global, members: &[Member]) -> Result<CellList, NoMemory>
     Ok(cells)
 }
 
+/// Appends the text that a value is.
+fn push_text(alloc: Global, names: &mut Names, item: &Json) -> Result<(), NoMemory>
+    ensures { OnOk result (names.new ≡ names.old ++ names_of (item.now ∷ [])) }
+{
+    match text_of(item) {
+        Some(text) => {
+            let name = Text::of(alloc, text)?;
+            names.push(name)
+        }
+        None => Ok(()),
+    }
+}
+
 /// The texts of a list.
 fn tallies(alloc: Global, items: &[Json]) -> Result<Names, NoMemory>
     ensures { IfOk result (λ names. names ≡ names_of items.now) }
 {
     let mut names = Names::new(alloc);
     for item in items {
-        if let Some(text) = text_of(item) {
-            let name = Text::of(alloc, text)?;
-            names.push(name)?;
-        }
+        push_text(alloc, &mut names, item)?;
     }
     Ok(names)
 }

@@ -1,5 +1,6 @@
 ghost use Rattle.std.specs.Prelude.{◌≡◌, ◌<◌, [], Ok, None, true, IfOk, IfSome, map, length, option_and_then, option_map, slice_get};
 ghost use Rattle.qapi_types.specs.declared.parts.CommandDef.{CommandDef as Command};
+ghost use Rattle.qapi_types.specs.{Choices.AreApart, Lookups.command_names};
 ghost use Rattle.qm_json.specs.Cleanness.{are_distinct};
 ghost use Rattle.qm_bind.specs.Bindings.{default_recipe, recipes_for};
 ghost use Rattle.qm_bind.specs.Faults.{command_fault, commands_fault, member_names, own_command, scope_of};
@@ -132,13 +133,13 @@ pub fn put_recipes<'m>(
 ) -> Result<Option<Blame<'m>>, NoMemory>
     requires context { IsContext context.now }
     requires defaults { recipes.old.items ≡ recipes_for context.now.schema.now (file_in context.now) [] }
+    requires apart { AreApart (command_names context.now.schema.now) }
     requires distinct { are_distinct (member_names members.now) ≡ true }
     ensures blame { IfOk result (λ blame. option_map told blame
         ≡ commands_fault context.now.schema.now (file_in context.now) members.now) }
     ensures put { result ≡ Ok None → recipes.new.items
         ≡ recipes_for context.now.schema.now (file_in context.now) members.now }
 {
-    let _parts = context.schema.parts();
     for member in members {
         let blame = put_recipe(alloc, context, member, recipes)?;
         if blame.is_some() {

@@ -1,6 +1,6 @@
 ghost use Rattle.std.specs.Prelude.{◌≡◌, IfOk};
 ghost use Rattle.std.specs.Option.{option_copied};
-ghost use Rattle.qm_bind.specs.Recipes.{are_recipe_parts, empty_object, is_recipe_object, is_recipe_part, may_wait_for, plain_recipe, recipe_of, returned_of, waiting_named, waiting_of};
+ghost use Rattle.qm_bind.specs.Recipes.{are_recipe_parts, empty_object, is_recipe_object, is_recipe_part, may_wait_for, plain_recipe, recipe_from, recipe_in, recipe_of, returned_of, waiting_named, waiting_of};
 ghost use Rattle.qm_bind.specs.Walks.{scope_in};
 
 use crate::acts::acts;
@@ -98,24 +98,39 @@ fn is_object(value: &Json) -> bool
     }
 }
 
+/// The recipe of these parts, where each is there.
+fn made(
+    acts: Option<Items<Act>>,
+    ret: Option<Template>,
+    waiting: Option<Waiting>,
+) -> Option<Recipe>
+    ensures { result ≡ recipe_from acts ret waiting }
+{
+    let acts = acts?;
+    let ret = ret?;
+    let waiting = waiting?;
+    if may_wait(waiting, acts.len()) {
+        Some(Recipe { acts, ret, waiting })
+    } else {
+        None
+    }
+}
+
+fn of_object(alloc: Global, names: &Names, value: &Json) -> Result<Option<Recipe>, NoMemory>
+    ensures { IfOk result (λ made. made ≡ recipe_in (scope_in names.now) value.now) }
+{
+    let acts = acts(alloc, names, value.member(b"acts"))?;
+    let ret = returned(alloc, names, value.member(b"return"))?;
+    Ok(made(acts, ret, waiting(value.member(b"wait"))))
+}
+
 /// The recipe that a value is.
 pub fn recipe(alloc: Global, names: &Names, value: &Json) -> Result<Option<Recipe>, NoMemory>
     ensures { IfOk result (λ made. made ≡ recipe_of (scope_in names.now) value.now) }
 {
-    if !is_object(value) {
-        return Ok(None);
+    if is_object(value) {
+        of_object(alloc, names, value)
+    } else {
+        Ok(None)
     }
-    let Some(acts) = acts(alloc, names, value.member(b"acts"))? else {
-        return Ok(None);
-    };
-    let Some(ret) = returned(alloc, names, value.member(b"return"))? else {
-        return Ok(None);
-    };
-    let Some(waiting) = waiting(value.member(b"wait")) else {
-        return Ok(None);
-    };
-    if !may_wait(waiting, acts.len()) {
-        return Ok(None);
-    }
-    Ok(Some(Recipe { acts, ret, waiting }))
 }
