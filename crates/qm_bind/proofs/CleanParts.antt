@@ -15,10 +15,6 @@ use Rattle.qm_bind.specs.Faults.{member_names}
 use Rattle.qm_bind.specs.Parts.{FileParts, is_file_object, members_given, parts_from, parts_of, texts_given}
 use Rattle.qm_bind.specs.Recipes.{layer_members, object_of}
 
-is-true : (b : Bool) → IsTrue b → b ≡ true
-is-true true h = refl
-is-true false h = absurd h
-
 as-object : (v : Json) (members : List Member) → out-Json v ≡ layer.Json-F.Obj members → v ≡ json.Obj members
 as-object v members e = sym (roll-out-Json v) ∙ ap roll-Json e ∙ rolls-Obj members
 
@@ -41,14 +37,14 @@ object-clean v members h e =
 
 found-clean : (members : List Member) (name : List ℕ) (u : Json) → list_all is_clean_member members ≡ true → value_in members name ≡ Some u → is_clean u ≡ true
 found-clean [] name u h e = absurd cc
-found-clean (m ∷ members) name u h e = by_case (bytes_eq m.name name) e
+found-clean (m ∷ members) name u h e = by_case (λ q. found-clean members name u parts.1 q) (bytes_eq m.name name) e
   where
     parts : (is_clean_member m ≡ true) × (list_all is_clean_member members ≡ true)
     parts = and_parts (is_clean_member m) (list_all is_clean_member members) h
 
-    by_case : (b : Bool) → option_map (λ (m : Member). m.value) (cond b (Some m) (find (λ (x : Member). bytes_eq x.name name) members)) ≡ Some u → is_clean u ≡ true
-    by_case true e = let s : m.value ≡ u = cc in ap is_clean (sym s) ∙ (and_parts _ (is_clean m.value) (sym (is_clean_member-is m) ∙ parts.0)).1
-    by_case false e = found-clean members name u parts.1 e
+    by_case : (value_in members name ≡ Some u → is_clean u ≡ true) → (b : Bool) → option_map (λ (m : Member). m.value) (cond b (Some m) (find (λ (x : Member). bytes_eq x.name name) members)) ≡ Some u → is_clean u ≡ true
+    by_case more true e = let s : m.value ≡ u = cc in ap is_clean (sym s) ∙ (and_parts _ (is_clean m.value) (sym (is_clean_member-is m) ∙ parts.0)).1
+    by_case more false e = more e
 
 -- a member of a clean value is clean
 pub member-clean : (v : Json) (name : List ℕ) (u : Json) → is_clean v ≡ true → member_of v name ≡ Some u → is_clean u ≡ true
@@ -95,4 +91,4 @@ parts-of v file h = by_case (is_file_object v) h
 
 -- no two recipes of a clean value are for one command
 pub commands-distinct : (v : Json) (file : FileParts) → IsClean v → parts_of v ≡ Some file → are_distinct (member_names file.commands) ≡ true
-commands-distinct v file h e = given-distinct (member_of v (codes "commands")) file.commands (λ u q. member-clean v (codes "commands") u (is-true (is_clean v) h) q) (parts-of v file e).of_commands
+commands-distinct v file h e = given-distinct (member_of v (codes "commands")) file.commands (λ u q. member-clean v (codes "commands") u h q) (parts-of v file e).of_commands

@@ -3,6 +3,7 @@ pub mod CleanParts
 pub mod Eaches
 pub mod Layers
 pub mod NameLaws
+pub mod OutcomeLaws
 pub mod PlaceLaws
 pub mod RecipeLaws
 pub mod StandingLaws

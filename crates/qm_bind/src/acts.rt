@@ -13,12 +13,7 @@ use qm_plan::Act;
 use sqlite_items::Items;
 use std::alloc::Global;
 
-fn set(
-    alloc: Global,
-    names: &Names,
-    cell: &Json,
-    to: &Json,
-) -> Result<Option<Act>, NoMemory>
+fn set(alloc: Global, names: &Names, cell: &Json, to: &Json) -> Result<Option<Act>, NoMemory>
     ensures { IfOk result (λ made. made
         ≡ set_of (known_name (scope_in names.now).is_cell cell.now) (template_of (scope_in names.now) to.now)) }
 {
@@ -61,12 +56,7 @@ fn amount(value: &Json) -> Option<u32>
     }
 }
 
-fn add(
-    alloc: Global,
-    names: &Names,
-    tally: &Json,
-    by: &Json,
-) -> Result<Option<Act>, NoMemory>
+fn add(alloc: Global, names: &Names, tally: &Json, by: &Json) -> Result<Option<Act>, NoMemory>
     ensures { IfOk result (λ made. made
         ≡ add_of (known_name (scope_in names.now).is_tally tally.now) (amount_of by.now)) }
 {

@@ -228,7 +228,8 @@ fn bind_value(alloc: Global, schema: &Schema, value: &Json) -> Result<Binding, B
 
 /// What a text's fault is told as.
 fn text_fault(alloc: Global, fault: JsonFault) -> BindFault
-    ensures { result ≢ no_memory → result ≡ fault_by (BindRule.NotJson fault) [] }
+    ensures told { fault ≢ JsonFault.Memory → result ≡ fault_by (BindRule.NotJson fault) [] }
+    ensures memory { fault ≡ JsonFault.Memory → result ≡ no_memory }
 {
     match fault {
         JsonFault::Memory => memory(alloc),

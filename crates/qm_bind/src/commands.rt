@@ -79,7 +79,7 @@ fn recipe_at(
     requires within { number < length context.now.schema.now.commands }
     ensures { IfOk result (λ made. made
         ≡ option_and_then (λ (c : Command). recipe_of (scope_of context.now.schema.now (file_in context.now) c) value.now)
-            (slice_get context.now.schema.now.commands number)) }
+        (slice_get context.now.schema.now.commands number)) }
 {
     let parts = context.schema.parts();
     let arg = context.schema.command(number).arg;

@@ -17,7 +17,7 @@ mod standing;
 mod templates;
 mod values;
 
-pub use checking::bind;
 pub use binding::{Binding, RecipeList};
-pub use laws::each_argument_is_a_member;
+pub use checking::bind;
 pub use fault::{BindFault, BindRule};
+pub use laws::each_argument_is_a_member;

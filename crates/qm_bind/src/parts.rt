@@ -1,4 +1,5 @@
 ghost use Rattle.std.specs.Prelude.{◌≡◌, Some, None, IfSome, IfNone, option_map};
+ghost use Rattle.std.specs.List.{list_all};
 ghost use Rattle.std.specs.Option.{option_copied};
 ghost use Rattle.qm_bind.specs.Parts.{are_part_names, is_file_object, is_part_name, is_text as is_text_value, members_given as given_members, parts_of as parts_in, texts_given as given_texts, texts_in as texts_among};
 ghost use Rattle.qm_bind.specs.Walks.{seen_parts};
@@ -36,15 +37,17 @@ fn is_text(value: &Json) -> bool
     text_of(value).is_some()
 }
 
+fn are_texts(items: &[Json]) -> bool
+    ensures { result ≡ list_all is_text_value items.now }
+{
+    items.iter().all(|item| is_text(item))
+}
+
 fn texts_in(items: &[Json]) -> Option<&[Json]>
     ensures some { IfSome result (λ texts. texts_among items.now ≡ Some texts.now) }
     ensures none { IfNone result (texts_among items.now ≡ None) }
 {
-    if items.iter().all(|item| is_text(item)) {
-        Some(items)
-    } else {
-        None
-    }
+    if are_texts(items) { Some(items) } else { None }
 }
 
 /// The items of a list of strings that may be absent.

@@ -99,11 +99,7 @@ fn is_object(value: &Json) -> bool
 }
 
 /// The recipe of these parts, where each is there.
-fn made(
-    acts: Option<Items<Act>>,
-    ret: Option<Template>,
-    waiting: Option<Waiting>,
-) -> Option<Recipe>
+fn made(acts: Option<Items<Act>>, ret: Option<Template>, waiting: Option<Waiting>) -> Option<Recipe>
     ensures { result ≡ recipe_from acts ret waiting }
 {
     let acts = acts?;

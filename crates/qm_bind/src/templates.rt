@@ -44,7 +44,11 @@ fn simple(
         return Ok(Some(Template::Const(value.copy(alloc)?)));
     }
     if name == b"args".as_slice() {
-        return Ok(if is_true(value) { Some(Template::Args) } else { None });
+        return Ok(if is_true(value) {
+            Some(Template::Args)
+        } else {
+            None
+        });
     }
     naming(alloc, names, name, value)
 }
@@ -95,7 +99,9 @@ fn object(alloc: Global, names: &Names, value: &Json) -> Result<Option<Template>
     ensures { IfOk result (λ made. made ≡ option_map Template.Object (member_templates (scope_in names.now) value.now)) }
 {
     match value {
-        Json::Obj(members) => Ok(member_list(alloc, names, members.as_slice())?.map(Template::Object)),
+        Json::Obj(members) => Ok(member_list(alloc, names, members.as_slice())?.map(
+            Template::Object,
+        )),
         _ => Ok(None),
     }
 }
