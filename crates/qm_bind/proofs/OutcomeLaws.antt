@@ -1,5 +1,5 @@
 -- What comes of a file, fault by fault.
-use Rattle.std.proofs.Common.{◌≡◌, ℕ, List, [], Option, Some, None, Result, Ok, Err, IfOk, option_map, refl, sym, ap, ◌∙◌, subst}
+use Rattle.std.proofs.Common.{◌≡◌, ℕ, List, [], Option, Some, None, Result, Ok, Err, IfOk, IfErr, option_map, refl, sym, ap, ◌∙◌, subst}
 use Rattle.std.specs.Option.{option_or}
 use Rattle.qapi_types.specs.declared.parts.Parts.{Parts}
 use Rattle.qapi_types.specs.Choices.{again}
@@ -37,3 +37,8 @@ of-value p text v h = ap (bound_as p) h
 pub of-fault : (p : Parts) (text : List ℕ) (f : JsonFault) → Err f ≡ reading_of text → Err (fault (NotJson f) []) ≡ bind_of p text
 unfolding bind_of
 of-fault p text f h = ap (bound_as p) h
+
+-- what is answered, where an answer is made of each outcome
+pub answer-is : {A E R : Type 0} (seen : A → R) (o : Result A E) (none r x : R) → IfOk o (λ a. (r ≡ none → ⊥) → r ≡ seen a) → IfErr o (λ e. r ≡ none) → IfOk o (λ a. seen a ≡ x) → (r ≡ none → ⊥) → r ≡ x
+answer-is seen (Ok a) none r x f g h never = f never ∙ h
+answer-is seen (Err e) none r x f g h never = absurd (never g)

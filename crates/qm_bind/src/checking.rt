@@ -203,7 +203,8 @@ fn fault_of(alloc: Global, blame: Blame) -> BindFault
 }
 
 fn answer(alloc: Global, outcome: Result<Outcome, NoMemory>) -> Result<Binding, BindFault>
-    ensures { IfOk outcome.entry (λ outcome. result ≢ Err no_memory → result ≡ seen_outcome outcome) }
+    ensures told { IfOk outcome.entry (λ outcome. result ≢ Err no_memory → result ≡ seen_outcome outcome) }
+    ensures memory { IfErr outcome.entry (λ _. result ≡ Err no_memory) }
 {
     match outcome {
         Ok(Outcome::Bound(binding)) => Ok(binding),
@@ -247,7 +248,7 @@ fn text_fault(alloc: Global, fault: JsonFault) -> BindFault
 /// or one that is none for its command (`BadRecipe`), and anything that is said of an event
 /// (`BadPeriod`). `Memory` comes only where a growth was refused.
 pub fn bind(alloc: Global, schema: &Schema, text: &[u8]) -> Result<Binding, BindFault>
-    ensures value { result ≢ Err no_memory → result ≡ bind_of schema.now text.now }
+    ensures { result ≢ Err no_memory → result ≡ bind_of schema.now text.now }
 {
     match read(alloc, text) {
         Ok(value) => bind_value(alloc, schema, &value),
