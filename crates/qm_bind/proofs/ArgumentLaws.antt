@@ -1,21 +1,21 @@
 -- Which arguments may be given.
-use Rattle.std.proofs.Common.{◌≡◌, ℕ, zero, suc, ◌+◌, ◌<◌, ◌≤◌, Bool, true, false, ◌||◌, eqb, eqb-true, eq-eqb, nat_eq, List, [], ◌∷◌, ◌++◌, map, take, length, get_or, refl, ap, sym, ◌∙◌, subst, inl, inr, ◌⊎◌, arith}
+use Rattle.std.proofs.Common.{◌≡◌, ℕ, zero, suc, ◌+◌, ◌<◌, ◌≤◌, Bool, true, false, ◌||◌, eqb, eqb-true, eq-eqb, nat_eq, List, [], ◌∷◌, ◌++◌, map, take, length, refl, ap, sym, ◌∙◌, subst, inl, inr, ◌⊎◌, arith}
 use Rattle.std.proofs.lemmas.{Bool.cases_lt, Bool.or_parts, Bool.false_from_ne_true, List.append-nil, List.append_assoc, List.get_or_past, Map.Steps.length-le_from_distinct_below}
 use Rattle.std.proofs.Math.ListN.{get_or-map}
 use Rattle.std.specs.List.{list_any, IsDistinct, AllByRecursion}
 use Rattle.qm_base.specs.Names.{is_named}
 use Rattle.qapi_types.specs.declared.kind.Kind.{Kind}
 use Rattle.qapi_types.specs.declared.kind.Kind.TheVariants as kinds
-use Rattle.qapi_types.specs.declared.parts.ArgType.{ArgType, TheVariants.AnyObject, TheVariants.Typed}
+use Rattle.qapi_types.specs.declared.parts.ArgType.{TheVariants.Typed}
 use Rattle.qapi_types.specs.Types.{kind_of, member_names, branch_types}
 use Rattle.qapi_types.specs.declared.parts.Parts.{Parts}
 use Rattle.qapi_types.specs.Goodness.{IsGood}
 use Rattle.std.specs.Prelude.{◌↔◌}
 use Rattle.qapi_types.specs.Chains.{has, row_of, Refers, Leads, by_one, and_one, NoneOnCycle, IsReachedFrom, marked}
 use Rattle.qapi_types.proofs.ChainLaws.{either, left, right}
-use Rattle.qm_bind.specs.declared.arguments.Arguments.{Arguments, TheVariants.Any, TheVariants.Of}
-use Rattle.qm_bind.specs.Arguments.{MayHave, own, of_branch, may_have, may_have_within, may_give}
-use Rattle.qm_bind.specs.Walks.{AreAlong, Takes, takes, marked_from, where_marked}
+use Rattle.qm_bind.specs.declared.arguments.Arguments.{TheVariants.Of}
+use Rattle.qm_bind.specs.Arguments.{MayHave, own, of_branch, may_have, may_have_within}
+use Rattle.qm_bind.specs.Walks.{AreAlong, Takes, marked_from, where_marked}
 
 row-is : (table : List Kind) (t : ℕ) → row_of (map branch_types table) t ≡ branch_types (kind_of table t)
 row-is table t = get_or-map branch_types table t kinds.Null

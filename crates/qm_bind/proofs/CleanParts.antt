@@ -1,5 +1,5 @@
 -- What is asked of the parts of a clean value.
-use Rattle.std.proofs.Common.{◌≡◌, ℕ, Bool, true, false, ◌&&◌, cond, if◌then◌else◌, IsTrue, List, [], ◌∷◌, map, Option, Some, None, option_map, option_and_then, refl, ap, sym, ◌∙◌, subst, bytes_eq}
+use Rattle.std.proofs.Common.{◌≡◌, ℕ, Bool, true, false, ◌&&◌, cond, if◌then◌else◌, List, [], ◌∷◌, Option, Some, None, option_map, refl, ap, sym, ◌∙◌, bytes_eq}
 use Rattle.std.specs.Prelude.{find, codes}
 use Rattle.std.specs.List.{list_all}
 use Rattle.std.proofs.lemmas.Bool.{and_parts}
@@ -9,7 +9,7 @@ use Rattle.qm_json.specs.declared.value.Json.TheOpen as layer
 use Rattle.qm_json.specs.declared.value.Json.TheViews.{roll-out-Json}
 use Rattle.qm_json.specs.declared.value.Json.TheVariants.{rolls-Obj}
 use Rattle.qm_json.specs.Cleanness.{IsClean, are_distinct, is_clean, is_clean_member}
-use Rattle.qm_json.specs.Members.{layer_members as members_in_layer, member_of, members_of, value_in}
+use Rattle.qm_json.specs.Members.{layer_members as members_in_layer, member_of, value_in}
 use Rattle.qm_json.proofs.CleanLaws.{is_clean-Obj, is_clean_member-is}
 use Rattle.qm_bind.specs.Faults.{member_names}
 use Rattle.qm_bind.specs.Parts.{FileParts, is_file_object, members_given, parts_from, parts_of, texts_given}

@@ -1,6 +1,6 @@
 -- What a value is read as, by its outermost layer.
-use Rattle.std.proofs.Common.{◌≡◌, ℕ, Bool, if◌then◌else◌, List, [], ◌∷◌, map, Option, Some, None, option_map, refl, ap, sym, ◌∙◌}
-use Rattle.std.specs.Prelude.{ℤ, codes}
+use Rattle.std.proofs.Common.{◌≡◌, if◌then◌else◌, List, [], ◌∷◌, map, None, option_map, refl, ap, sym, ◌∙◌}
+use Rattle.std.specs.Prelude.{codes}
 use Rattle.std.specs.{List.AllByRecursion, Str.bytes_eq}
 use Rattle.qm_json.specs.declared.value.{Json.Json, Json.roll-Json, Json.out-Json, Json.map-Json, Member.Member, Json.TheOpen.Json-F, Json.TheOpen.Member-F, Json.TheFolds.fold-Member, Json.TheFolds.fold-roll-Json, Json.TheFolds.fold-roll-Member}
 use Rattle.qm_json.specs.declared.value.Json.TheVariants as json
@@ -8,9 +8,8 @@ use Rattle.qm_json.specs.declared.value.Json.TheOpen as layer
 use Rattle.qm_json.specs.declared.value.Json.TheViews.{roll-out-Json, outs-Obj}
 use Rattle.qm_json.specs.declared.value.Json.TheVariants.{rolls-Null, rolls-Bool, rolls-Int, rolls-Num, rolls-Str, rolls-Arr, rolls-Obj}
 use Rattle.qm_json.proofs.Inductions.{every-Json}
-use Rattle.qm_plan.specs.declared.templates.{Template.Template, TemplateMember.TemplateMember}
 use Rattle.qm_plan.specs.declared.templates.Template.TheVariants as template
-use Rattle.qm_bind.specs.Grammar.{Scope, Reading, NamedReading, each_of, named_template, named_value, reading_layer, reading_member_layer, reading_of, simple_template, template_by, template_in, template_of, with_name}
+use Rattle.qm_bind.specs.Grammar.{Scope, Reading, NamedReading, each_of, named_template, named_value, reading_layer, reading_member_layer, reading_of, simple_template, template_by, template_in, template_of}
 use Rattle.qm_bind.specs.Walks.{item_templates, layer_members, layer_template, layer_templates, member_template, member_templates, template_among, template_at}
 
 folded : Scope → Member → NamedReading

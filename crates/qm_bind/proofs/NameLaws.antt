@@ -1,8 +1,7 @@
 -- Sets of names, and names that stand twice.
-use Rattle.std.proofs.Common.{◌≡◌, ◌<◌, ◌≤◌, ◌+◌, ◌||◌, ℕ, suc, Bool, true, false, not, cond, List, [], ◌∷◌, ◌++◌, map, take, drop, length, get_or, Option, Some, None, is_some, option_map, position, refl, sym, ap, ◌∙◌, subst, add-one, drop-cons, arith, bytes_eq}
-use Rattle.std.specs.List.{cons_option, filter_map, list_any, position_from}
+use Rattle.std.proofs.Common.{◌≡◌, ◌<◌, ◌≤◌, ◌+◌, ◌||◌, ℕ, Bool, true, false, not, cond, List, [], ◌∷◌, ◌++◌, take, drop, length, get_or, Option, Some, None, is_some, position, refl, sym, ap, ◌∙◌, subst, add-one, drop-cons, bytes_eq}
+use Rattle.std.specs.List.{cons_option, list_any, position_from}
 use Rattle.std.proofs.lemmas.{Iterator.Adapters.position_from-zero, List.append-nil, List.append_assoc, List.map-append, List.take_more, List.take_all, List.drop_all, List.Elements.filter_map-append, List.Folds.list_any-append}
-use Rattle.qm_base.specs.Names.{is_named}
 use Rattle.qm_json.specs.declared.value.{Json.Json, Member.Member}
 use Rattle.qapi_types.specs.{Choices.again, Choices.stands, Sets.AddsName, Sets.HasNames}
 use Rattle.qm_bind.specs.{Faults.member_names, Grammar.text_of, Parts.names_of}

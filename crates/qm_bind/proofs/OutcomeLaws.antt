@@ -1,5 +1,5 @@
 -- What comes of a file, fault by fault.
-use Rattle.std.proofs.Common.{◌≡◌, ℕ, List, [], Option, Some, None, Result, Ok, Err, IfOk, IfErr, option_map, refl, sym, ap, ◌∙◌, subst}
+use Rattle.std.proofs.Common.{◌≡◌, ℕ, List, [], Option, Some, None, Result, Ok, Err, IfOk, IfErr, option_map, ap, ◌∙◌}
 use Rattle.std.specs.Option.{option_or}
 use Rattle.qapi_types.specs.declared.parts.Parts.{Parts}
 use Rattle.qapi_types.specs.Choices.{again}

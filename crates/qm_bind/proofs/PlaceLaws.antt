@@ -1,7 +1,7 @@
 -- Recipes in their places.
-use Rattle.std.proofs.Common.{◌≡◌, ◌<◌, ◌≤◌, ◌+◌, ◌||◌, ℕ, zero, suc, Bool, true, false, not, cond, if◌then◌else◌, List, [], ◌∷◌, ◌++◌, map, take, drop, set, length, get_or, slice_get, Option, Some, None, is_some, option_map, option_and_then, unwrap_or, position, find, refl, sym, ap, ◌∙◌, subst, arith, bytes_eq}
-use Rattle.std.specs.{List.list_any, Option.option_or}
-use Rattle.std.proofs.lemmas.{Bool.or_parts, Bool.false_from_ne_true, List.map-append, List.take_more, List.take_all, List.drop_all, List.Folds.find-append, List.Quantifiers.position-Some, Option.get_or_from_slice_get, Option.slice_get_within, Slice.Eq.bytes_eq-Decides}
+use Rattle.std.proofs.Common.{◌≡◌, ◌<◌, ◌≤◌, ◌+◌, ℕ, zero, suc, Bool, true, false, cond, if◌then◌else◌, List, [], ◌∷◌, ◌++◌, map, take, drop, set, length, get_or, slice_get, Option, Some, None, is_some, option_map, option_and_then, unwrap_or, find, refl, sym, ap, ◌∙◌, subst, arith, bytes_eq}
+use Rattle.std.specs.{Option.option_or}
+use Rattle.std.proofs.lemmas.{Bool.or_parts, List.take_more, List.take_all, List.drop_all, List.Folds.find-append, List.Quantifiers.position-Some, Slice.Eq.bytes_eq-Decides}
 use Rattle.qm_json.specs.declared.value.{Json.Json, Member.Member}
 use Rattle.qm_json.specs.{Cleanness.are_distinct, Members.has_name, Members.value_in}
 use Rattle.qm_json.proofs.Distinct.{new-name}
@@ -9,7 +9,7 @@ use Rattle.qapi_types.specs.declared.parts.{CommandDef.CommandDef, Parts.Parts}
 use Rattle.qapi_types.specs.{Choices.AreApart, Choices.times, Lookups.command_names, Lookups.place_of}
 use Rattle.qm_plan.specs.declared.recipes.Recipe.{Recipe}
 use Rattle.qm_bind.specs.declared.fault.{BindFault.BindFault, BindRule.TheVariants.BadRecipe, BindRule.TheVariants.UnknownCommand}
-use Rattle.qm_bind.specs.{Bindings.given_recipe, Bindings.recipe_for, Bindings.recipes_for, Faults.command_fault, Faults.command_named, Faults.commands_fault, Faults.fault, Faults.first_in, Faults.member_names, Faults.own_command, Faults.recipe_fault, Faults.scope_of, Parts.FileParts}
+use Rattle.qm_bind.specs.{Bindings.recipe_for, Bindings.recipes_for, Faults.command_fault, Faults.commands_fault, Faults.fault, Faults.member_names, Faults.own_command, Faults.recipe_fault, Faults.scope_of, Parts.FileParts}
 use Rattle.qm_bind.specs.{Recipes.plain_recipe, Recipes.recipe_of, Standing.standing_recipe, Walks.put_at, Walks.with_recipe}
 use Rattle.qm_bind.proofs.NameLaws.{from}
 

@@ -1,13 +1,12 @@
 -- Recipes by the parts of their object, and what a command's recipe may name.
-use Rattle.std.proofs.Common.{◌≡◌, ◌<◌, ◌≤◌, ℕ, Bool, true, false, cond, List, map, length, slice_get, Option, Some, None, refl, sym, ap, ◌∙◌, subst, arith}
+use Rattle.std.proofs.Common.{◌≡◌, ◌<◌, ℕ, Bool, true, false, cond, List, length, slice_get, Some, None, sym, ap, ◌∙◌, subst, arith}
 use Rattle.std.proofs.lemmas.Option.{get_or_from_slice_get}
 use Rattle.qm_base.specs.Names.{is_named}
 use Rattle.qm_json.specs.declared.value.Json.{Json}
 use Rattle.qapi_types.specs.declared.kind.Kind.{Kind}
 use Rattle.qapi_types.specs.declared.parts.{CommandDef.CommandDef, Parts.Parts}
-use Rattle.qapi_types.specs.{Choices.AreApart, Choices.times, Goodness.IsGood, Goodness.CommandBelow, Goodness.TakesBelow, Lookups.command_names, Lookups.event_names, Sets.HasNames}
+use Rattle.qapi_types.specs.{Choices.AreApart, Goodness.IsGood, Goodness.CommandBelow, Goodness.TakesBelow, Lookups.command_names, Lookups.event_names, Sets.HasNames}
 use Rattle.qapi_types.proofs.ChoiceLaws.{times-append}
-use Rattle.qm_plan.specs.declared.recipes.Recipe.{Recipe}
 use Rattle.qm_bind.specs.declared.arguments.Arguments.{Arguments}
 use Rattle.qm_bind.specs.{Arguments.may_give, Faults.member_names, Faults.scope_of, Grammar.Scope, Parts.FileParts, Parts.names_of, Recipes.is_recipe_object, Recipes.recipe_in, Recipes.recipe_of, Walks.Takes, Walks.takes}
 

@@ -3,7 +3,7 @@
 use Rattle.std.specs.Prelude.{ℕ, if◌then◌else◌, List, [], ◌∷◌, map, is_some, Option, Some, None, option_map, option_and_then, slice_get}
 use Rattle.std.specs.{Option.option_or}
 use Rattle.qm_base.specs.Names.{is_named}
-use Rattle.qm_json.specs.declared.value.{Json.Json, Member.Member}
+use Rattle.qm_json.specs.declared.value.{Member.Member}
 use Rattle.qapi_types.specs.declared.parts.{CommandDef.CommandDef, Parts.Parts}
 use Rattle.qapi_types.specs.{Choices.again, Lookups.command_names, Lookups.place_of}
 use Rattle.qm_bind.specs.declared.fault.{BindFault.BindFault, BindRule.BindRule, BindRule.TheVariants.BadPeriod, BindRule.TheVariants.BadRecipe, BindRule.TheVariants.Twice, BindRule.TheVariants.UnknownCommand}

@@ -1,6 +1,6 @@
 -- Templates as JSON values (this project's own rule): an object with one member, whose name says of which sort the
 -- template is.
-use Rattle.std.specs.Prelude.{ℕ, Bool, true, false, if◌then◌else◌, List, [], ◌∷◌, map, codes, Option, Some, None, option_map}
+use Rattle.std.specs.Prelude.{ℕ, Bool, false, if◌then◌else◌, List, [], ◌∷◌, map, codes, Option, Some, None, option_map}
 use Rattle.std.specs.Str.{bytes_eq}
 use Rattle.qm_json.specs.declared.value.{Json.Json, Json.out-Json, Member.Member, Json.TheOpen.Json-F, Json.TheOpen.Member-F, Json.TheFolds.fold-Json}
 use Rattle.qm_json.specs.declared.value.Json.TheVariants as json

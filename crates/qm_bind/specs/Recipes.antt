@@ -1,5 +1,5 @@
 -- Recipes as JSON values (this project's own rule).
-use Rattle.std.specs.Prelude.{ℕ, ℤ, pos, negsuc, ◌==◌, ◌^◌, nat_lt, Bool, true, false, ◌&&◌, ◌||◌, if◌then◌else◌, List, [], ◌∷◌, length, map, codes, Option, Some, None, option_map, option_and_then}
+use Rattle.std.specs.Prelude.{ℕ, ℤ, pos, negsuc, ◌==◌, ◌^◌, nat_lt, Bool, true, false, ◌&&◌, if◌then◌else◌, List, [], ◌∷◌, length, map, codes, Option, Some, None, option_map, option_and_then}
 use Rattle.std.specs.{List.list_all, Option.option_map_or, Option.option_or, Str.bytes_eq}
 use Rattle.qm_base.specs.Names.{is_named}
 use Rattle.qm_json.specs.declared.value.{Json.Json, Json.out-Json, Member.Member, Json.TheOpen.Json-F}

@@ -1,6 +1,5 @@
-use Rattle.std.proofs.Common.{◌≡◌, ◌∙◌, Result, Ok, Err, ap}
-use Rattle.qm_json.specs.declared.value.Json.{Json}
-use Rattle.qm_read.specs.declared.fault.JsonFault.{JsonFault, TheVariants.Memory}
+use Rattle.std.proofs.Common.{◌≡◌, ◌∙◌, Err, ap}
+use Rattle.qm_read.specs.declared.fault.JsonFault.{TheVariants.Memory}
 use Rattle.qm_bind.proofs.OutcomeLaws.{of-fault, of-value}
 use Rattle.qm_bind.proofs.checking.bind.Goals as goal
 

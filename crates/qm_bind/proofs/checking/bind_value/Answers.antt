@@ -1,4 +1,4 @@
-use Rattle.std.proofs.Common.{◌≡◌, ◌∙◌, Result, Err, IfOk, sym}
+use Rattle.std.proofs.Common.{◌≡◌, ◌∙◌, Err, sym}
 use Rattle.std.proofs.lemmas.Result.{IfOk-weaker}
 use Rattle.qm_bind.specs.Bindings.{binding_of, bound_of, no_memory, unless}
 use Rattle.qm_bind.specs.Faults.{file_fault}

@@ -1,5 +1,4 @@
-use Rattle.std.proofs.Common.{◌≡◌, ◌∙◌, Option, Ok, Some, None, ap, sym, arith, option_map}
-use Rattle.qm_bind.specs.declared.fault.Blame.{Blame}
+use Rattle.std.proofs.Common.{◌≡◌, ◌∙◌, Ok, None, ap, sym, arith, option_map}
 use Rattle.qm_bind.specs.Walks.{file_in, told}
 use Rattle.qm_bind.proofs.PlaceLaws.{none-of, placed-more}
 use Rattle.qm_bind.proofs.commands.put_recipes.Goals as goal

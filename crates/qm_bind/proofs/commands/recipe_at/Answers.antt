@@ -1,4 +1,4 @@
-use Rattle.std.proofs.Common.{◌≡◌, ◌∙◌, List, Option, IfOk, option_and_then, ap, sym, subst}
+use Rattle.std.proofs.Common.{◌≡◌, ◌∙◌, Option, IfOk, option_and_then, ap, sym, subst}
 use Rattle.qapi_types.specs.declared.parts.{CommandDef.CommandDef, Parts.Parts}
 use Rattle.qapi_types.proofs.GoodLaws.{inside}
 use Rattle.qm_plan.specs.declared.recipes.Recipe.{Recipe}

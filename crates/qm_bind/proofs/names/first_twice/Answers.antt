@@ -1,7 +1,5 @@
-use Rattle.std.proofs.Common.{◌≡◌, List, ℕ, subst, sym, not, ◌+◌, arith, rules}
+use Rattle.std.proofs.Common.{subst, sym, ◌+◌, arith, rules}
 use Rattle.qm_bind.specs.Faults.{member_names}
-use Rattle.qm_bind.specs.Grammar.{text_of}
-use Rattle.qm_bind.proofs.Eaches.{none_if_not}
 use Rattle.qm_bind.proofs.NameLaws.{Seen, seen-more, seen-same}
 use Rattle.qm_bind.proofs.names.first_twice.Goals as goal
 use Rattle.qm_bind.proofs.names.first_twice.Goals.{in-Some+in_ok-add+else-not-branch, in_default}

@@ -1,4 +1,4 @@
-use Rattle.std.proofs.Common.{◌≡◌, ◌+◌, List, ℕ, take, subst, sym, arith, rules}
+use Rattle.std.proofs.Common.{◌+◌, List, ℕ, take, subst, sym, arith, rules}
 use Rattle.qapi_types.specs.Sets.{HasNames}
 use Rattle.qm_bind.specs.Parts.{names_of}
 use Rattle.qm_bind.proofs.NameLaws.{text-more, text-same}
