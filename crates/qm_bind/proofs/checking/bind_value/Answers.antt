@@ -14,5 +14,5 @@ pub returns-in-Some : goal.returns-in-Some
 returns-in-Some c h =
     answer-is seen_outcome c.file_outcome.result (Err no_memory) c.answer.result (binding_of c.args.schema.now c.args.value.now) c.answer.ensures.told c.answer.ensures.memory
     (IfOk-weaker c.file_outcome.result (λ o. seen_outcome o ≡ unless (file_fault c.args.schema.now (seen_parts c.in-Some.file)) (bound_of c.args.schema.now (seen_parts c.in-Some.file))) (λ o. seen_outcome o ≡ binding_of c.args.schema.now c.args.value.now)
-        (λ o e. e ∙ of-parts c.args.schema.now c.args.value.now (seen_parts c.in-Some.file) c.in-Some.ensures) c.file_outcome.ensures)
+    (λ o e. e ∙ of-parts c.args.schema.now c.args.value.now (seen_parts c.in-Some.file) c.in-Some.ensures) c.file_outcome.ensures)
     h
