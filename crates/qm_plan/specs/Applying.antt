@@ -1,7 +1,7 @@
 -- What a plan does, as far as store, return value and what it asks for go: its first failure, or all of it
 -- (this project's own rule). Values are set, tallies grow and failures come in order, each act on what those
 -- before it left; all else is made of the store after all of these.
-use Rattle.std.specs.Prelude.{ℕ, ◌+◌, ◌^◌, nat_lt, Bool, true, false, if◌then◌else◌, List, [], ◌∷◌, Option, Some, None, option_map, unwrap_or, slice_get, Result, Ok, Err}
+use Rattle.std.specs.Prelude.{ℕ, ◌+◌, nat_lt, Bool, true, false, if◌then◌else◌, List, [], ◌∷◌, Option, Some, None, option_map, unwrap_or, slice_get, Result, Ok, Err}
 use Rattle.std.specs.{List.filter_map, List.list_any}
 use Rattle.qm_json.specs.declared.value.Json.{Json}
 use Rattle.qm_plan.specs.{Plans.no_members, Stores.Contents, Stores.with_cell, Stores.with_tally, Stores.tally_of, Stores.committed, Templates.value_of}

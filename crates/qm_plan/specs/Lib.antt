@@ -1,4 +1,5 @@
 pub mod Applying
+pub mod Cleanness
 pub mod Plans
 pub mod Stores
 pub mod Templates

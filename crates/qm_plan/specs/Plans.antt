@@ -6,7 +6,7 @@ use Rattle.qm_json.specs.declared.value.Json.TheVariants as json
 use Rattle.qm_json.specs.declared.value.Json.TheOpen as layer
 use Rattle.qm_plan.specs.{Templates.filled, declared.calls.Call.Call, declared.templates.Template.Template, declared.templates.Template.TheVariants.Const}
 use Rattle.qm_plan.specs.declared.recipes.{Act.Act, Recipe.Recipe, Plan.Plan}
-use Rattle.qm_plan.specs.declared.recipes.Act.TheVariants.{Set, Add, Raise, Start, OnJob, Negotiate, Enable, Quit, Fail}
+use Rattle.qm_plan.specs.declared.recipes.Act.TheVariants.{Set, Raise, Start, OnJob, Negotiate, Enable}
 
 -- the arguments that a call gives, where it gives some
 abbrev pub given_arguments : Call → Option Json

@@ -1,5 +1,5 @@
 -- What templates stand for (this project's own rule).
-use Rattle.std.specs.Prelude.{ℕ, List, [], Option, Some, None, option_map, unwrap_or, pos}
+use Rattle.std.specs.Prelude.{Option, Some, option_map, unwrap_or, pos}
 use Rattle.std.specs.List.{filter_map}
 use Rattle.qm_json.specs.{declared.value.Json.Json, declared.value.Member.Member, Members.member_of}
 use Rattle.qm_json.specs.declared.value.Json.TheVariants as json

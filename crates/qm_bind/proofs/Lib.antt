@@ -1,0 +1,9 @@
+pub mod ArgumentLaws
+pub mod CleanParts
+pub mod Eaches
+pub mod Layers
+pub mod NameLaws
+pub mod OutcomeLaws
+pub mod PlaceLaws
+pub mod RecipeLaws
+pub mod StandingLaws

@@ -1,0 +1,23 @@
+//! The bind file: what each command of a schema does, checked whole before anything runs. This
+//! project's own rule.
+#![tactic(auto)]
+
+mod acts;
+mod arguments;
+pub mod binding;
+mod checking;
+mod commands;
+pub mod fault;
+mod laws;
+mod names;
+mod parts;
+mod recipes;
+mod scope;
+mod standing;
+mod templates;
+mod values;
+
+pub use binding::{Binding, RecipeList};
+pub use checking::bind;
+pub use fault::{BindFault, BindRule};
+pub use laws::each_argument_is_a_member;
