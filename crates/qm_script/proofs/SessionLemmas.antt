@@ -1,8 +1,8 @@
 -- Bytes and inputs of a session: a turn of the player, by why the session takes nothing.
-use Rattle.std.proofs.Common.{◌≡◌, ℕ, ◌-◌, ◌==◌, ◌||◌, Bool, true, false, cond, List, [], ◌∷◌, ◌++◌, option_map, is_some, Option, Some, None, Result, Ok, Err, refl, ap, sym, ◌∙◌, subst, arith}
+use Rattle.std.proofs.Common.{◌≡◌, ℕ, ◌-◌, ◌==◌, ◌||◌, Bool, true, false, cond, List, [], ◌∷◌, ◌++◌, option_map, is_some, Option, Some, None, Result, Ok, Err, refl, ap, sym, ◌∙◌, subst}
 use Rattle.std.proofs.Math.ListN.{set}
 use Rattle.std.specs.{Bool.if◌then◌else◌, List.list_any, List.slice_get, Option.option_or, Option.option_to_list}
-use Rattle.std.proofs.lemmas.Bool.Decides.{nat_tests}
+use Rattle.std.proofs.lemmas.Bool.Decides.{Decides-eqb}
 use Rattle.qm_core.specs.{Legal.past_of, Next.View, Next.closed_refusal, Next.session_refusal, Standing.admitted_of, Standing.is_dropped, Standing.sessions_of, Standing.was_opened}
 use Rattle.qm_core.specs.Next as step
 use Rattle.qm_core.specs.declared.{entries.Entry.Entry, entries.StepFault.StepFault, inputs.Input.Input}
@@ -25,13 +25,17 @@ no_stop : (found : Option StepFault) → option_map stop_of found ≡ None → f
 no_stop None none = refl
 no_stop (Some fault) none = cc
 
+or_false : (b : Bool) → (b || false) ≡ true → b ≡ true
+or_false true e = refl
+or_false false e = e
+
 -- the session is the one that was opened
 only_session : (s : ℕ) (sessions : List ℕ) (feeder : Option (List ℕ)) → sessions ≡ cond (is_some feeder) (1 ∷ []) [] → list_any (λ t. t == s) sessions ≡ true →
     (fed : List ℕ) × (feeder ≡ Some fed) × (s ≡ 1)
-only_session s sessions None is known = absurd (let e : list_any (λ t. t == s) [] ≡ true = sym (ap (λ (l : List ℕ). list_any (λ t. t == s) l) is) ∙ known in cc)
+only_session s sessions None is known = absurd (let e : false ≡ true = sym (ap (λ (l : List ℕ). list_any (λ t. t == s) l) is) ∙ known in cc)
 only_session s sessions (Some fed) is known =
     let e : ((1 == s) || false) ≡ true = sym (ap (λ (l : List ℕ). list_any (λ t. t == s) l) is) ∙ known in
-    (fed, refl, grind (arith, nat_tests, e))
+    (fed, refl, sym ((Decides-eqb 1 s).0 (or_false (1 == s) e)))
 
 fed_refused_by : (old : Playing) (s : ℕ) (bytes : List ℕ) (found : Option StepFault) (stop : Stop) (turn : Turn) → option_map stop_of found ≡ Some stop →
     turn.player ≡ old → turn.stop ≡ Some stop → Turns old (fed_step old.played s bytes found) turn
