@@ -12,6 +12,19 @@ use Rattle.qm_script.specs.Playing.{Played, admit_step, core_step, fed_step, fed
 use Rattle.qm_script.specs.declared.endings.StepWord.TheVariants as word
 use Rattle.qm_script.specs.declared.{endings.Stop.Stop, endings.Stop.TheVariants.Step, player.Turn.Turn}
 
+-- why a session takes nothing, by its tests
+abbrev stop_by : Bool → Bool → Option Stop
+stop_by known dropped = option_map stop_of (option_or (if known then (if dropped then Some Closed else None) else Some NoSession) None)
+
+-- from a player that looks so
+pub tested_stop : (self : Playing) (m : View) (feeder : Option (List ℕ)) (s : ℕ) (known dropped : Bool) → playing m feeder ≡ self →
+    was_opened s (past_of m.journal) ≡ known → is_dropped s (past_of m.journal) ≡ dropped →
+    option_map stop_of (option_or (if known then (if dropped then Some Closed else None) else Some NoSession) None) ≡ closed_stop self s
+unfolding closed_stop
+tested_stop self m feeder s known dropped seen opened closed =
+    ap (λ (b : Bool). stop_by b dropped) (sym opened) ∙ ap (λ (b : Bool). stop_by (was_opened s (past_of m.journal)) b) (sym closed)
+    ∙ ap (λ (p : Playing). option_map stop_of (session_refusal s (past_of p.played.journal) None)) seen
+
 closed_known : (known dropped : Bool) → option_map stop_of (option_or (if known then (if dropped then Some Closed else None) else Some NoSession) None) ≡ None → known ≡ true
 closed_known true dropped none = refl
 closed_known false dropped none = cc

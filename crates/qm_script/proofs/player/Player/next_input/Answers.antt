@@ -11,7 +11,7 @@ admitted-requires c = subst (λ (p : Playing). was_opened c.args.session (past_o
 pub returns-in-Some-clause-value : goal.returns-in-Some-clause-value
 returns-in-Some-clause-value c =
     IfOk-weaker c.input.result _ _
-    (λ input is. is ∙ next_of_fed c.args.self.now c.self.inside.monitor c.self.inside.feeder c.in-Some.feeder.now c.args.session c.admitted.result c.self.view_is c.self.invariant c.requires c.in-Some.is c.admitted.ensures)
+    (λ input is. is ∙ next_of_fed c.args.self.now c.self.inside.monitor c.self.inside.feeder c.in-Some.feeder c.args.session c.admitted.result c.self.view_is c.self.invariant c.requires c.in-Some.is c.admitted.ensures)
     c.input.ensures.value
 
 pub returns-in-None-clause-value : goal.returns-in-None-clause-value
