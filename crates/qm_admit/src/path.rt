@@ -15,7 +15,11 @@ pub enum PathStep {
 }
 
 impl Default for PathStep {
-    fn default() -> PathStep {
+    ghost use Rattle.qm_admit.specs.declared.path.PathStep.{Place};
+
+    fn default() -> PathStep
+        ensures { result ≡ Place 0 }
+    {
         PathStep::Place(0)
     }
 }
