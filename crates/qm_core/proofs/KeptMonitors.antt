@@ -9,17 +9,19 @@ use Rattle.qm_core.specs.declared.entries.Entry.TheVariants.{Open, Admit, Done, 
 use Rattle.qm_core.specs.declared.{inputs.Input.Input, monitor.Monitor.TheInside.Inside as Fields, requests.Request.Request}
 use Rattle.qm_core.specs.{declared.requests.RequestName.RequestName, declared.sessions.Session.Session, Inputs.IsCleanInput}
 use Rattle.qm_core.specs.Kept.{IsPlaced, IsSession, IsFirstOpen, IsRunning, IsSound, answered, sent, view_of}
+use Rattle.qm_plan.specs.{Stores.Contents, declared.recipes.Plan.Plan}
+use Rattle.qm_core.specs.{Planned.planned_of, State.store_of, State.stored}
 use Rattle.qm_core.specs.{Answers.IsAnswer, Legal.past_of, Order.MayFollow, Replies.reply_to, Replies.is_return}
 use Rattle.qm_core.specs.Standing.{sessions_of, is_ended, open_count_of, admitted_of, in_flight_of, mode_of, running_of, negotiates, last_moment_of}
 use Rattle.qm_core.specs.Texts.{entry_text_of}
 use Rattle.qm_core.proofs.{Journals.legal-append, Journals.past_of-append, KeptSessions.kept-admit, KeptSessions.kept-done, KeptSessions.kept-open, KeptSessions.none_waits, Texts.text_more}
 
 -- the fields after one more entry are sound
-pub after_entry : (m : Fields) (e : Entry) (journal : Reserved Entry) (bytes : ℕ) (session : Session) (running : Option Request) (moment : ℕ) → IsSound m →
+pub after_entry : (m : Fields) (e : Entry) (journal : Reserved Entry) (bytes : ℕ) (session : Session) (running : Option Request) (moment : ℕ) (store : Contents) → IsSound m →
     MayFollow (past_of m.journal.items) e → IsAnswer m.world (past_of m.journal.items) e → IsPlaced (view_of m) e bytes → journal ≡ record m.journal { items = m.journal.items ++ e ∷ [] } →
-    IsSession (e ∷ past_of m.journal.items) session → IsRunning (e ∷ past_of m.journal.items) running → moment ≡ last_moment_of (e ∷ past_of m.journal.items) →
-    IsSound record { world = m.world; limits = m.limits; journal = journal; session = session; running = running; last_moment = moment }
-after_entry m e journal bytes session running moment sound may answer placed added kept runs last =
+    IsSession (e ∷ past_of m.journal.items) session → IsRunning (e ∷ past_of m.journal.items) running → moment ≡ last_moment_of (e ∷ past_of m.journal.items) → store ≡ store_of m.world (e ∷ past_of m.journal.items) →
+    IsSound record { world = m.world; limits = m.limits; journal = journal; session = session; running = running; last_moment = moment; store = store }
+after_entry m e journal bytes session running moment store sound may answer placed added kept runs last held =
     let next = past_of-append m.journal.items e in
     let more = text_more m.journal.items e in
     let one = length-append m.journal.items (e ∷ []) in
@@ -32,6 +34,7 @@ after_entry m e journal bytes session running moment sound may answer placed add
       session = rw next kept;
       running = rw next runs;
       moment = rw next last;
+      store = rw next held;
     }
 
 pub sound-admit : (m : Fields) (journal : Reserved Entry) (s bytes : ℕ) (input waiting : Input) → IsSound m → IsFirstOpen (past_of m.journal.items) s →
@@ -48,12 +51,13 @@ pub sound-admit : (m : Fields) (journal : Reserved Entry) (s bytes : ℕ) (input
       };
       running = m.running;
       last_moment = m.last_moment;
+      store = m.store;
     }
 sound-admit m journal s bytes input waiting sound first more below clean same placed added =
     let past = past_of m.journal.items in
     let one = first.first in
     let number : admitted_of s past ≡ m.session.admitted = rw one (sym sound.session.admitted) in
-    rw (same, one) (after_entry m (Admit 1 (m.session.admitted + 1) InBand input) journal bytes _ m.running m.last_moment sound
+    rw (same, one) (after_entry m (Admit 1 (m.session.admitted + 1) InBand input) journal bytes _ m.running m.last_moment m.store sound
     record {
       is_open = rw one at first.is_open;
       more = rw one at more;
@@ -62,36 +66,37 @@ sound-admit m journal s bytes input waiting sound first more below clean same pl
       below = rw one at below;
       clean = clean;
     }
-    tt (rw (number, one) at placed) (rw one at added) (kept-admit past m.session input (rw one at first) (none_waits 1 past (rw one at below)) sound.session) record { request = sound.running.request; of_first = sound.running.of_first } sound.moment)
+    tt (rw (number, one) at placed) (rw one at added) (kept-admit past m.session input (rw one at first) (none_waits 1 past (rw one at below)) sound.session) record { request = sound.running.request; of_first = sound.running.of_first } sound.moment sound.store)
 
-pub sound-done : (m : Fields) (journal : Reserved Entry) (s k bytes : ℕ) (request : Request) (reply : Json) (line : List ℕ) (moment last : ℕ) (commands : Bool) (session : Session) → IsSound m →
-    running_of (past_of m.journal.items) ≡ Some request → request.session ≡ s → request.number ≡ k → s ≡ 1 →
-    reply ≡ reply_to m.world request → line ≡ printed (reply_to m.world request) → commands ≡ (negotiates (Some request) && is_return (reply_to m.world request)) → last ≡ max moment m.last_moment → last < 2 ^ 64 →
-    IsPlaced (view_of m) (Done s k reply last) bytes →
+pub sound-done : (m : Fields) (journal : Reserved Entry) (s k bytes : ℕ) (request : Request) (plan : Option Plan) (reply : Json) (line : List ℕ) (moment last : ℕ) (commands : Bool) (session : Session) (store : Contents) → IsSound m →
+    running_of (past_of m.journal.items) ≡ Some request → request.session ≡ s → request.number ≡ k → s ≡ 1 → plan ≡ planned_of m.world (running_of (past_of m.journal.items)) →
+    reply ≡ reply_to m.world m.store request → line ≡ printed (reply_to m.world m.store request) → commands ≡ (negotiates (Some request) && is_return (reply_to m.world m.store request)) → last ≡ max moment m.last_moment → last < 2 ^ 64 →
+    store ≡ stored m.world m.store plan (reply_to m.world m.store request) →
+    IsPlaced (view_of m) (Done s k plan reply last) bytes →
     session ≡ answered m.session line commands →
-    journal ≡ record m.journal { items = m.journal.items ++ Done s k reply last ∷ [] } →
-    IsSound record { world = m.world; limits = m.limits; journal = journal; session = session; running = None; last_moment = last }
-sound-done m journal s k bytes request reply line moment last commands session sound runs named numbered one answer printing change greatest small placed said added =
+    journal ≡ record m.journal { items = m.journal.items ++ Done s k plan reply last ∷ [] } →
+    IsSound record { world = m.world; limits = m.limits; journal = journal; session = session; running = None; last_moment = last; store = store }
+sound-done m journal s k bytes request plan reply line moment last commands session store sound runs named numbered one planned answer printing change greatest small held placed said added =
     let past = past_of m.journal.items in
     let later : last_moment_of past ≤ last = omega (arith, sound.moment, greatest) in
     let again : last ≡ max last (last_moment_of past) = omega (arith, later) in
-    let opens : commands ≡ (negotiates (running_of past) && is_return (reply_to m.world request)) = rw runs change in
-    rw (said, printing) (after_entry m (Done 1 k (reply_to m.world request) last) journal bytes _ None last sound
+    let opens : commands ≡ (negotiates (running_of past) && is_return (reply_to m.world m.store request)) = rw runs change in
+    rw (said, printing) (after_entry m (Done 1 k plan (reply_to m.world m.store request) last) journal bytes _ None last store sound
     record {
       running = rw runs (ap (λ (q : RequestName). Some q) (rw (named, numbered, one) refl));
       later = later;
       below = small;
     }
-    (rw runs refl) (rw (answer, one) at placed) (rw (answer, one) at added) (kept-done past m.session k (reply_to m.world request) last commands sound.legal.ordered sound.session opens) record { request = refl; of_first = tt } again)
+    record { planned = planned; answer = rw (runs, ← sound.store) refl } (rw (answer, one) at placed) (rw (answer, one) at added) (kept-done past m.session k plan (reply_to m.world m.store request) last commands sound.legal.ordered sound.session opens) record { request = refl; of_first = tt } again (rw (← sound.store) held))
 
 pub sound-open : (m : Fields) (journal : Reserved Entry) (bytes : ℕ) (line : List ℕ) → IsSound m → sessions_of (past_of m.journal.items) ≡ [] →
     line ≡ printed greeting_value → IsPlaced (view_of m) (Open 1) bytes →
     journal ≡ record m.journal { items = m.journal.items ++ Open 1 ∷ [] } →
-    IsSound record { world = m.world; limits = m.limits; journal = journal; session = record (sent m.session line) { opened = true }; running = m.running; last_moment = m.last_moment }
+    IsSound record { world = m.world; limits = m.limits; journal = journal; session = record (sent m.session line) { opened = true }; running = m.running; last_moment = m.last_moment; store = m.store }
 sound-open m journal bytes line sound none greeting placed added =
-    rw greeting (after_entry m (Open 1) journal bytes _ m.running m.last_moment sound
+    rw greeting (after_entry m (Open 1) journal bytes _ m.running m.last_moment m.store sound
     record { next = rw none refl; few = omega arith }
-    tt placed added (kept-open (past_of m.journal.items) m.session sound.legal.ordered none sound.session) record { request = sound.running.request; of_first = sound.running.of_first } sound.moment)
+    tt placed added (kept-open (past_of m.journal.items) m.session sound.legal.ordered none sound.session) record { request = sound.running.request; of_first = sound.running.of_first } sound.moment sound.store)
 
 -- a drop has kept its place
 pub drop-place : (m : Fields) (s bytes : ℕ) (cause : Cause) → IsSound m → IsFirstOpen (past_of m.journal.items) s →

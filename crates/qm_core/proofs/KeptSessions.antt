@@ -5,6 +5,7 @@ use Rattle.std.proofs.lemmas.{Bool.or_parts, List.nil_from_length, List.Folds.li
 use Rattle.qm_json.specs.{Printing.printed, declared.value.Json.Json}
 use Rattle.qm_caps.specs.{Greetings.greeting_value, Modes.bound_of, declared.mode.Lane.TheVariants.InBand, declared.mode.Mode.Mode}
 use Rattle.qm_caps.specs.declared.mode.Mode.TheVariants.{Command}
+use Rattle.qm_plan.specs.declared.recipes.Plan.{Plan}
 use Rattle.qm_core.specs.declared.entries.Entry.{Entry, TheVariants.Open, TheVariants.Admit, TheVariants.Start, TheVariants.Done, TheVariants.Take, TheVariants.Eof, TheVariants.Drop}
 use Rattle.qm_core.specs.{declared.inputs.Input.Input, declared.requests.Request.Request, declared.sessions.Session.Session, Replies.is_return}
 use Rattle.qm_core.specs.{Kept.IsSession, Kept.IsFirstOpen, Kept.Waits, Kept.answered, Kept.fits, Kept.sent, Legal.AllFollow}
@@ -32,7 +33,7 @@ bound-mode s [] = refl
 bound-mode s (Open t ∷ past) = bound-mode s past
 bound-mode s (Admit t k lane input ∷ past) = bound-mode s past
 bound-mode s (Start t k ∷ past) = bound-mode s past
-bound-mode s (Done t k reply moment ∷ past) = either _ (mode_of s past) (bound-mode s past) where
+bound-mode s (Done t k plan reply moment ∷ past) = either _ (mode_of s past) (bound-mode s past) where
   either : (b : Bool) (m : Mode) → bound_of m ≡ 1 → bound_of (cond b Command m) ≡ 1
   either true m h = refl
   either false m h = h
@@ -81,9 +82,9 @@ sent-where : (b : Bool) (s : ℕ) (past : List Entry) (line : List ℕ) → AllF
 sent-where true s past line legal = let more = sent-more s past line legal in (sym more.0, sym more.1)
 sent-where false s past line legal = (refl, refl)
 
-pub kept-done : (past : List Entry) (session : Session) (k : ℕ) (reply : Json) (moment : ℕ) (commands : Bool) → AllFollow past → IsSession past session →
-    commands ≡ (negotiates (running_of past) && is_return reply) → IsSession (Done 1 k reply moment ∷ past) (answered session (printed reply) commands)
-kept-done past session k reply moment commands legal kept change =
+pub kept-done : (past : List Entry) (session : Session) (k : ℕ) (plan : Option Plan) (reply : Json) (moment : ℕ) (commands : Bool) → AllFollow past → IsSession past session →
+    commands ≡ (negotiates (running_of past) && is_return reply) → IsSession (Done 1 k plan reply moment ∷ past) (answered session (printed reply) commands)
+kept-done past session k plan reply moment commands legal kept change =
     let more = sent-where (is_open 1 past) 1 past (printed reply) legal in
     let opens : (session.opened && not session.dropped) ≡ is_open 1 past = sym (open-kept past session kept) in
     record {
@@ -146,7 +147,7 @@ no_candidates s (Open t ∷ past) none =
     rw ((or_parts (t == s) false parts.1).0) (no_candidates s past parts.0)
 no_candidates s (Admit t k lane input ∷ past) none = no_candidates s past none
 no_candidates s (Start t k ∷ past) none = no_candidates s past none
-no_candidates s (Done t k reply moment ∷ past) none = closed (t == s) (was_opened s past) none (no_candidates s past none) where
+no_candidates s (Done t k plan reply moment ∷ past) none = closed (t == s) (was_opened s past) none (no_candidates s past none) where
   closed : (same opened : Bool) → opened ≡ false → candidates_of s past ≡ [] →
       cond (same && (opened && not (is_dropped s past))) (with_line (candidates_of s past) (taken_of s past) (printed reply)) (candidates_of s past) ≡ []
   closed true false h e = e

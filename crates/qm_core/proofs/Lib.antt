@@ -4,5 +4,6 @@ pub mod KeptMonitors
 pub mod KeptSessions
 pub mod Rooms
 pub mod StepLaws
+pub mod StoreLaws
 pub mod Texts
 pub mod Transcripts

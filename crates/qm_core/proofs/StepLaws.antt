@@ -50,7 +50,7 @@ last-below [] legal = omega arith
 last-below (entry.Open s ∷ past) legal = last-below past legal.1
 last-below (entry.Admit s k lane input ∷ past) legal = last-below past legal.1
 last-below (entry.Start s k ∷ past) legal = last-below past legal.1
-last-below (entry.Done s k reply moment ∷ past) legal = omega (arith, legal.0.below, last-below past legal.1)
+last-below (entry.Done s k plan reply moment ∷ past) legal = omega (arith, legal.0.below, last-below past legal.1)
 last-below (entry.Take s lines ∷ past) legal = last-below past legal.1
 last-below (entry.Eof s ∷ past) legal = last-below past legal.1
 last-below (entry.Drop s why ∷ past) legal = last-below past legal.1
@@ -86,7 +86,7 @@ is_answer world past Start = of_start (named_of (starting_of past)) where
   of_start : (q : Option RequestName) → IsAnswer world past (start_entry q)
   of_start None = tt
   of_start (Some q) = tt
-is_answer world past (Finish s k moment) = refl
+is_answer world past (Finish s k moment) = record { planned = refl; answer = refl }
 is_answer world past (Take s) = tt
 is_answer world past (End s) = tt
 is_answer world past (Drop s why) = tt

@@ -40,7 +40,7 @@ taken_first s [] legal = empty_prefix []
 taken_first s (Open t ∷ past) legal = let before = taken_first s past legal.1 in may_grow (t == s) _ (taken_of s past) (candidates_of s past) _ before before
 taken_first s (Admit t k lane input ∷ past) legal = taken_first s past legal.1
 taken_first s (Start t k ∷ past) legal = taken_first s past legal.1
-taken_first s (Done t k reply moment ∷ past) legal = let before = taken_first s past legal.1 in may_grow (t == s && is_open s past) _ (taken_of s past) (candidates_of s past) _ before before
+taken_first s (Done t k plan reply moment ∷ past) legal = let before = taken_first s past legal.1 in may_grow (t == s && is_open s past) _ (taken_of s past) (candidates_of s past) _ before before
 taken_first s (Take t lines ∷ past) legal = hand_out t lines (taken_first s past legal.1) legal.0.all where
   hand_out : (t : ℕ) (lines : List (List ℕ)) → IsPrefix (taken_of s past) (transcript_of s past) → lines ≡ untaken_of t past → IsPrefix (cond (t == s) (taken_of s past ++ lines) (taken_of s past)) (transcript_of s past)
   hand_out t lines p all = may_take _ _ _ _ p (λ same. let e : lines ≡ untaken_of s past = subst (λ (u : ℕ). lines ≡ untaken_of u past) ((Decides-eqb t s).0 same) all in rw e (all_taken _ _ p))

@@ -1,12 +1,14 @@
 -- What comes of a command that takes effect (this project's own rule).
-use Rattle.std.specs.Prelude.{ℕ, Bool, false, if◌then◌else◌, List, [], ◌∷◌, ◌++◌, codes, Option, Some, None, slice_get, Result, Ok, Err}
-use Rattle.std.specs.{List.list_any, Option.option_and_then, Option.option_map_or, Str.bytes_eq}
+use Rattle.std.specs.Prelude.{ℕ, Bool, true, false, if◌then◌else◌, List, [], ◌∷◌, ◌++◌, codes, map, Option, Some, None, slice_get, Result, Ok, Err}
+use Rattle.std.specs.Option.{option_map_or}
 use Rattle.qm_base.specs.Names.{is_named}
-use Rattle.qm_json.specs.{declared.value.Json.Json, declared.value.Json.TheVariants.Obj, Members.member_of}
+use Rattle.qm_json.specs.declared.value.Json.{Json, TheVariants.Obj, TheVariants.Arr, TheVariants.Str}
 use Rattle.qapi_types.specs.declared.parts.CommandDef.{CommandDef}
 use Rattle.qm_admit.specs.declared.verdict.Verdict.{Verdict as Admission, TheVariants.Yes, TheVariants.No}
-use Rattle.qm_admit.specs.{Misfits.return_misfit, Misfits.verdict_of as admission_of, Paths.items_in, Views.view_of, Views.string_of}
-use Rattle.qm_caps.specs.Greetings.{version_value}
+use Rattle.qm_admit.specs.Misfits.{return_misfit, verdict_of as admission_of}
+use Rattle.qm_caps.specs.Greetings.{named, version_value}
+use Rattle.qm_plan.specs.{Applying.Outcome, Applying.applied_of, Stores.Contents, declared.facts.Facts.Facts, declared.recipes.Plan.Plan}
+use Rattle.qm_plan.specs.declared.applied.ApplyFault.{ApplyFault, TheVariants.Failed, TheVariants.TallyFull, TheVariants.Memory}
 use Rattle.qm_core.specs.declared.world.World.{World}
 
 -- what a command returns, or what its failure says
@@ -20,40 +22,59 @@ command_name_at world command = option_map_or (λ (c : CommandDef). c.name) (sli
 -- the commands that fail, since they are not built
 abbrev pub unbuilt_names : List (List ℕ)
 unbuilt_names =
-    codes "query-commands" ∷ codes "query-qmp-schema" ∷ codes "quit" ∷ codes "query-jobs"
+    codes "quit" ∷ codes "query-jobs"
     ∷ codes "job-cancel" ∷ codes "job-pause" ∷ codes "job-resume" ∷ codes "job-complete" ∷ codes "job-finalize" ∷ codes "job-dismiss" ∷ []
 
 abbrev pub unbuilt_text : List ℕ → List ℕ
 unbuilt_text name = codes "The command " ++ name ++ codes " is not built"
 
-abbrev pub is_string : List ℕ → Json → Bool
-is_string text value = option_map_or (bytes_eq text) (string_of value) false
+-- what is told of a command: its name (QMP Reference Manual, `query-commands`)
+abbrev pub command_value : CommandDef → Json
+command_value command = Obj (named (codes "name") (Str command.name) ∷ [])
 
-abbrev pub items_of : Option Json → List Json
-items_of None = []
-items_of (Some value) = items_in (view_of value)
-
--- the list `enable` of the arguments holds the string `oob`
-abbrev pub enables_oob : Option Json → Bool
-enables_oob arguments = list_any (is_string (codes "oob")) (items_of (option_and_then (λ a. member_of a (codes "enable")) arguments))
-
--- the command that ends the negotiation returns the empty object; out-of-band execution is not built
-abbrev pub negotiation_effect : Bool → Effect
-negotiation_effect oob = if oob then Err (codes "The capability oob is not built") else Ok (Obj [])
+-- what plans can return of the monitor itself; there are no jobs yet
+abbrev pub facts_of : World → Facts
+facts_of world = record {
+  version = version_value;
+  commands = Arr (map command_value world.schema.commands);
+  introspection = world.introspection;
+  jobs = Arr [];
+}
 
 -- a value is returned where it fits the command's return type
 abbrev pub returned : Json → Admission → Effect
 returned value Yes = Ok value
 returned value (No fault path) = Err (codes "The return value does not fit its type")
 
--- what comes of the command of this name and number
-abbrev pub named_effect : World → ℕ → Option Json → List ℕ → Effect
-named_effect world command arguments name =
-    if bytes_eq name (codes "qmp_capabilities") then negotiation_effect (enables_oob arguments)
-    else if bytes_eq name (codes "query-version") then Ok version_value
-    else if is_named unbuilt_names name then Err (unbuilt_text name)
-    else returned (Obj []) (admission_of (return_misfit world.schema command (Obj [])))
+abbrev pub full_text : List ℕ → List ℕ
+full_text name = codes "Tally '" ++ name ++ codes "' is full"
 
--- what comes of the command of the number, called with the arguments
-abbrev pub effect_of : World → ℕ → Option Json → Effect
-effect_of world command arguments = named_effect world command arguments (command_name_at world command)
+-- what a plan's failure says; want of memory is none
+abbrev pub failure_text : ApplyFault → List ℕ
+failure_text (Failed text) = text
+failure_text (TallyFull name) = full_text name
+failure_text Memory = []
+
+abbrev pub is_true : Option Bool → Bool
+is_true (Some true) = true
+is_true _ = false
+
+-- what a plan that does not fail returns; execution out of band is not built
+abbrev pub outcome_effect : World → ℕ → Outcome → Effect
+outcome_effect world command outcome =
+    if is_true outcome.enable then Err (codes "The capability oob is not built")
+    else returned outcome.ret (admission_of (return_misfit world.schema command outcome.ret))
+
+abbrev pub applied_effect : World → ℕ → Result Outcome ApplyFault → Effect
+applied_effect world command (Ok outcome) = outcome_effect world command outcome
+applied_effect world command (Err fault) = Err (failure_text fault)
+
+-- what comes of the command of this name and number, by its plan and the store
+abbrev pub named_effect : World → Contents → ℕ → Plan → List ℕ → Effect
+named_effect world store command plan name =
+    if is_named unbuilt_names name then Err (unbuilt_text name)
+    else applied_effect world command (applied_of (facts_of world) plan store)
+
+-- what comes of the command of the number
+abbrev pub effect_of : World → Contents → ℕ → Plan → Effect
+effect_of world store command plan = named_effect world store command plan (command_name_at world command)

@@ -5,7 +5,7 @@ use Rattle.std.specs.{Option.option_to_list, Result.result_err}
 use Rattle.qm_caps.specs.declared.mode.Mode.TheVariants.{Command, Negotiating}
 use Rattle.qm_core.specs.{Legal.past_of, Legal.IsLegal, Legal.HasRoom, Legal.IsWithin, Legal.is_within, Next.View, Next.Step, Next.full_refusal, Next.refusal_of}
 use Rattle.qm_core.specs.Standing.{sessions_of, is_open, is_dropped, is_ended, open_count_of, admitted_of, mode_of, waiting_of, running_of, last_moment_of}
-use Rattle.qm_core.specs.{Texts.entry_text_of, Texts.text_of, Transcript.has_overrun, Transcript.untaken_of, Transcript.wire_of}
+use Rattle.qm_core.specs.{State.store_of, Texts.entry_text_of, Texts.text_of, Transcript.has_overrun, Transcript.untaken_of, Transcript.wire_of}
 use Rattle.qm_core.specs.declared.{TheConstants.MOST_ENTRIES, TheConstants.MOST_TEXT, TheConstants.MOST_UNTAKEN, entries.Entry.Entry, entries.StepFault.StepFault, monitor.Monitor.TheInside.Inside as Fields, requests.Request.Request, sessions.Session.Session}
 
 abbrev pub view_of : Fields → View
@@ -50,6 +50,7 @@ pub record IsSound (m : Fields) : Type 0 where
   pub session : IsSession (past_of m.journal.items) m.session
   pub running : IsRunning (past_of m.journal.items) m.running
   pub moment : m.last_moment ≡ last_moment_of (past_of m.journal.items)
+  pub store : m.store ≡ store_of m.world (past_of m.journal.items)
 
 -- the refusal of a step
 abbrev pub refusal_in : View → Step → Option StepFault

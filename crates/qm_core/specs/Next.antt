@@ -2,7 +2,7 @@
 use Rattle.std.specs.Prelude.{◌≡◌, ℕ, ◌+◌, ◌^◌, ◌<◌, ◌==◌, nat_le, max, Bool, false, if◌then◌else◌, ◌&&◌, ◌||◌, List, [], ◌∷◌, ◌++◌, length, reverse, Option, Some, None, is_some, is_none, refl}
 use Rattle.std.specs.{Coded.Coded, Coded.code_by, Coded.coded×, Coded.coded_list, Coded.coded_ℕ, Option.option_or}
 use Rattle.qm_caps.specs.{Modes.bound_of, declared.mode.Lane.TheVariants.InBand}
-use Rattle.qm_core.specs.{Inputs.IsCleanInput, Legal.past_of, Legal.is_within, Answers.reply_of, Order.cause_holds}
+use Rattle.qm_core.specs.{Inputs.IsCleanInput, Legal.past_of, Legal.is_within, Answers.reply_of, Order.cause_holds, Planned.planned_of, State.store_of}
 use Rattle.qm_core.specs.Standing.{sessions_of, was_opened, is_dropped, is_ended, open_count_of, admitted_of, in_flight_of, mode_of, running_of, starting_of, named_of, last_moment_of}
 use Rattle.qm_core.specs.{Texts.text_of, Texts.entry_text_of, Transcript.untaken_of, declared.TheConstants.MOST_SESSIONS}
 use Rattle.qm_core.specs.declared.entries.{Cause.Cause, Cause.TheVariants.Ended, Entry.Entry, StepFault.StepFault}
@@ -36,7 +36,7 @@ abbrev pub entry_of : World → List Entry → Step → Entry
 entry_of world past Open = entry.Open (length (sessions_of past) + 1)
 entry_of world past (Admit s input) = entry.Admit s (admitted_of s past + 1) InBand input
 entry_of world past Start = start_entry (named_of (starting_of past))
-entry_of world past (Finish s k moment) = entry.Done s k (reply_of world (running_of past)) (max moment (last_moment_of past))
+entry_of world past (Finish s k moment) = entry.Done s k (planned_of world (running_of past)) (reply_of world (store_of world past) (running_of past)) (max moment (last_moment_of past))
 entry_of world past (Take s) = entry.Take s (untaken_of s past)
 entry_of world past (End s) = entry.Eof s
 entry_of world past (Drop s cause) = entry.Drop s cause

@@ -61,7 +61,7 @@ abbrev pub MayFollow : List Entry → Entry → Type 0
 MayFollow past (Open s) = MayOpen past s
 MayFollow past (Admit s k lane input) = MayAdmit past s k lane input
 MayFollow past (Start s k) = MayStart past s k
-MayFollow past (Done s k reply moment) = MayFinish past s k moment
+MayFollow past (Done s k plan reply moment) = MayFinish past s k moment
 MayFollow past (Take s lines) = MayTake past s lines
 MayFollow past (Eof s) = MayEnd past s
 MayFollow past (Drop s cause) = MayDrop past s cause

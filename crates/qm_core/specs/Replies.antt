@@ -3,7 +3,8 @@ use Rattle.std.specs.Prelude.{Bool, List, [], ◌∷◌, codes, ℕ, Option, Som
 use Rattle.qm_json.specs.{declared.value.Json.Json, declared.value.Member.Member, Members.has_name, Members.members_of, Members.member_of}
 use Rattle.qm_json.specs.declared.value.Json.TheVariants as json
 use Rattle.qm_caps.specs.Greetings.{named}
-use Rattle.qm_core.specs.{Effects.Effect, Effects.effect_of, Inputs.arguments_in, Refusals.class_of, Refusals.class_name_of, Refusals.desc_of, Verdicts.verdict_of}
+use Rattle.qm_plan.specs.Stores.{Contents}
+use Rattle.qm_core.specs.{Effects.Effect, Effects.effect_of, Planned.plan_for, Refusals.class_of, Refusals.class_name_of, Refusals.desc_of, Verdicts.verdict_of}
 use Rattle.qm_core.specs.declared.{inputs.Input.Input, inputs.Input.TheVariants.Doc, inputs.Input.TheVariants.Bad, requests.Request.Request, world.World.World}
 use Rattle.qm_core.specs.declared.verdicts.{Class.Class, Class.TheVariants.GenericError, Verdict.Verdict, Verdict.TheVariants.Refused, Verdict.TheVariants.Run}
 
@@ -25,14 +26,14 @@ effect_member (Ok value) = named (codes "return") value
 effect_member (Err text) = named (codes "error") (error_value GenericError text)
 
 -- the same by the verdict
-abbrev pub outcome_of : World → Option Json → Verdict → Member
-outcome_of world arguments (Refused refusal) = named (codes "error") (error_value (class_of refusal) (desc_of refusal))
-outcome_of world arguments (Run command) = effect_member (effect_of world command arguments)
+abbrev pub outcome_of : World → Contents → Request → Verdict → Member
+outcome_of world store request (Refused refusal) = named (codes "error") (error_value (class_of refusal) (desc_of refusal))
+outcome_of world store request (Run command) = effect_member (effect_of world store command (plan_for world request command))
 
--- the reply to a request, by its mode at its admission
-abbrev pub reply_to : World → Request → Json
-reply_to world request = json.Obj
-    (outcome_of world (arguments_in request.input) (verdict_of world request.mode request.input) ∷ id_of request.input)
+-- the reply to a request, by its mode at its admission and the store before the reply
+abbrev pub reply_to : World → Contents → Request → Json
+reply_to world store request = json.Obj
+    (outcome_of world store request (verdict_of world request.mode request.input) ∷ id_of request.input)
 
 -- a reply that is no error
 abbrev pub is_return : Json → Bool

@@ -55,7 +55,7 @@ abbrev mutual
   -- the mode: commands are taken from the first time that negotiation was answered with a return
   pub mode_of : ℕ → List Entry → Mode
   mode_of s [] = Negotiating
-  mode_of s (Done t k reply moment ∷ past) =
+  mode_of s (Done t k plan reply moment ∷ past) =
       if t == s && (negotiates (running_of past) && is_return reply) then Command else mode_of s past
   mode_of s (e ∷ past) = mode_of s past
 
@@ -72,7 +72,7 @@ abbrev mutual
   pub running_of : List Entry → Option Request
   running_of [] = None
   running_of (Start s k ∷ past) = find (λ request. request.number == k) (waiting_of s past)
-  running_of (Done s k reply moment ∷ past) = None
+  running_of (Done s k plan reply moment ∷ past) = None
   running_of (e ∷ past) = running_of past
 
 -- how many requests of the session wait or run
@@ -86,7 +86,7 @@ in_flight_of s past = length (waiting_of s past) + (if is_of s (running_of past)
 -- the greatest moment, 0 without one
 abbrev pub last_moment_of : List Entry → ℕ
 last_moment_of [] = 0
-last_moment_of (Done s k reply moment ∷ past) = max moment (last_moment_of past)
+last_moment_of (Done s k plan reply moment ∷ past) = max moment (last_moment_of past)
 last_moment_of (e ∷ past) = last_moment_of past
 
 -- the place of the session's last start, from 1 on; 0 without one

@@ -65,7 +65,7 @@ abbrev pub entry_body_of : Entry → List ℕ
 entry_body_of (Open s) = codes " open " ++ decimal s ++ codes "\n"
 entry_body_of (Admit s k lane input) = codes " admit " ++ request_text_of s k ++ codes " " ++ lane_word_of lane ++ codes " " ++ input_text_of input ++ codes "\n"
 entry_body_of (Start s k) = codes " start " ++ request_text_of s k ++ codes "\n"
-entry_body_of (Done s k reply moment) = codes " done " ++ request_text_of s k ++ codes " @" ++ decimal moment ++ codes " " ++ printed reply ++ codes "\n"
+entry_body_of (Done s k plan reply moment) = codes " done " ++ request_text_of s k ++ codes " @" ++ decimal moment ++ codes " " ++ printed reply ++ codes "\n"
 entry_body_of (Take s lines) = codes " take " ++ decimal s ++ codes " " ++ decimal (length lines) ++ codes "\n" ++ flat_map taken_text_of lines
 entry_body_of (Eof s) = codes " eof " ++ decimal s ++ codes "\n"
 entry_body_of (Drop s cause) = codes " drop " ++ decimal s ++ codes " " ++ cause_word_of cause ++ codes "\n"

@@ -36,7 +36,7 @@ abbrev pub candidates_of : ℕ → List Entry → List Candidate
 candidates_of s [] = []
 candidates_of s (Open t ∷ past) =
     if t == s then with_line (candidates_of s past) (taken_of s past) (printed greeting_value) else candidates_of s past
-candidates_of s (Done t k reply moment ∷ past) =
+candidates_of s (Done t k plan reply moment ∷ past) =
     if t == s && is_open s past then with_line (candidates_of s past) (taken_of s past) (printed reply) else candidates_of s past
 candidates_of s (e ∷ past) = candidates_of s past
 

@@ -1,30 +1,35 @@
 //! What comes of a command that takes effect. This project's own rule.
 
-ghost use Rattle.std.specs.Prelude.{◌≡◌, ◌<◌, [], IfOk, codes, length};
-ghost use Rattle.std.specs.List.{list_any};
-ghost use Rattle.std.specs.Option.{option_and_then, option_copied};
+ghost use Rattle.std.specs.Prelude.{◌≡◌, ◌≢◌, ◌<◌, [], IfOk, OnErr, Ok, Err, length};
 ghost use Rattle.qm_base.specs.Names.{is_named};
-ghost use Rattle.qm_json.specs.Members.{member_of};
 ghost use Rattle.qm_admit.specs.Misfits.{return_misfit, verdict_of as admission_of};
-ghost use Rattle.qm_core.specs.Effects.{command_name_at, effect_of, enables_oob, is_string as is_string_of, items_of, named_effect, negotiation_effect, returned as returned_by, unbuilt_names, unbuilt_text};
+ghost use Rattle.qm_plan.specs.Applying.{applied_of, outcome_in};
+ghost use Rattle.qm_plan.specs.Stores.{committed};
+ghost use Rattle.qm_plan.specs.declared.applied.ApplyFault.TheVariants.{Memory};
+ghost use Rattle.qm_core.specs.Effects.{command_name_at, effect_of, facts_of, failure_text, full_text, is_true, named_effect, outcome_effect, applied_effect, returned as returned_by, unbuilt_names, unbuilt_text};
+ghost use Rattle.qm_core.specs.State.{left_by};
 
-use crate::judging::string;
-use crate::world::World;
+use crate::world::{Setting, World};
 use qm_admit::{Verdict, admit_return};
 use qm_base::{NoMemory, Text};
-use qm_caps::version;
-use qm_json::{Json, Members};
+use qm_json::Json;
+use qm_plan::{Applied, ApplyFault, Plan, Store, StoreChangeList, apply};
 use std::alloc::Global;
 
 /// What a command returns, or what its failure says.
 pub(crate) type Effect = Result<Json, Text>;
 
+/// What comes of a command, and how it changes the store.
+#[derive(Drop)]
+pub(crate) struct Ended {
+    pub(crate) effect: Effect,
+    pub(crate) changes: StoreChangeList,
+}
+
 fn is_unbuilt(name: &[u8]) -> bool
     ensures { result ≡ is_named unbuilt_names name.now }
 {
-    name == b"query-commands".as_slice()
-        || name == b"query-qmp-schema".as_slice()
-        || name == b"quit".as_slice()
+    name == b"quit".as_slice()
         || name == b"query-jobs".as_slice()
         || name == b"job-cancel".as_slice()
         || name == b"job-pause".as_slice()
@@ -43,49 +48,25 @@ fn unbuilt_text(alloc: Global, name: &[u8]) -> Result<Text, NoMemory>
     Ok(text)
 }
 
-fn is_string(text: &[u8], value: &Json) -> bool
-    ensures { result ≡ is_string_of text.now value.now }
+fn full_text(alloc: Global, name: &[u8]) -> Result<Text, NoMemory>
+    ensures { IfOk result (λ text. text ≡ full_text name.now) }
 {
-    match string(value) {
-        Some(bytes) => text == bytes,
-        None => false,
+    let mut text = Text::of(alloc, b"Tally '")?;
+    text.extend(name)?;
+    text.extend(b"' is full")?;
+    Ok(text)
+}
+
+/// What a failure says; want of memory is none.
+fn failure_text(alloc: Global, fault: ApplyFault) -> Result<Text, NoMemory>
+    ensures text { IfOk result (λ text. text ≡ failure_text fault) }
+    ensures known { IfOk result (λ _. fault ≢ Memory) }
+{
+    match fault {
+        ApplyFault::Failed(text) => Ok(text),
+        ApplyFault::TallyFull(name) => full_text(alloc, name.as_slice()),
+        ApplyFault::Memory => Err(NoMemory),
     }
-}
-
-fn items(value: Option<&Json>) -> &[Json]
-    ensures { result.now ≡ items_of (option_copied value.entry) }
-{
-    match value {
-        Some(Json::Arr(items)) => items.as_slice(),
-        _ => &[],
-    }
-}
-
-fn member<'a>(value: Option<&'a Json>, name: &[u8]) -> Option<&'a Json>
-    ensures { option_copied result ≡ option_and_then (λ v. member_of v name.now) (option_copied value.entry) }
-{
-    value?.member(name)
-}
-
-fn has_oob(items: &[Json]) -> bool
-    ensures { result ≡ list_any (is_string_of (codes "oob")) items.now }
-{
-    items.iter().any(|item| is_string(b"oob", item))
-}
-
-fn enables_oob(arguments: Option<&Json>) -> bool
-    ensures { result ≡ enables_oob (option_copied arguments.entry) }
-{
-    has_oob(items(member(arguments, b"enable")))
-}
-
-fn negotiation(alloc: Global, oob: bool) -> Result<Effect, NoMemory>
-    ensures { IfOk result (λ effect. effect ≡ negotiation_effect oob) }
-{
-    if oob {
-        return Ok(Err(Text::of(alloc, b"The capability oob is not built")?));
-    }
-    Ok(Ok(Members::new(alloc).into_json()))
 }
 
 fn returned(alloc: Global, world: &World, command: u32, value: Json) -> Result<Effect, NoMemory>
@@ -99,27 +80,69 @@ fn returned(alloc: Global, world: &World, command: u32, value: Json) -> Result<E
     }
 }
 
-fn named_effect(
+fn failed(alloc: Global, text: Text) -> Ended
+    ensures effect { result.effect ≡ Err text }
+    ensures changes { result.changes ≡ [] }
+{
+    Ended {
+        effect: Err(text),
+        changes: StoreChangeList::new(alloc),
+    }
+}
+
+fn is_true(choice: Option<bool>) -> bool
+    ensures { result ≡ is_true choice }
+{
+    matches!(choice, Some(true))
+}
+
+fn outcome_ending(
     alloc: Global,
     world: &World,
+    store: &Store,
     command: u32,
-    arguments: Option<&Json>,
-    name: &[u8],
-) -> Result<Effect, NoMemory>
+    applied: Applied,
+) -> Result<Ended, NoMemory>
     requires id { command < length world.now.schema.commands }
-    ensures { IfOk result (λ effect. effect
-        ≡ named_effect world.now command (option_copied arguments.entry) name.now) }
+    ensures effect { IfOk result (λ ending. ending.effect
+        ≡ outcome_effect world.now command (outcome_in applied store.now)) }
+    ensures changes { IfOk result (λ ending.
+        IfOk ending.effect (λ _. committed ending.changes store.now ≡ committed applied.changes store.now)) }
+    ensures none { IfOk result (λ ending. OnErr ending.effect (ending.changes ≡ [])) }
 {
-    if name == b"qmp_capabilities".as_slice() {
-        return negotiation(alloc, enables_oob(arguments));
+    let _ = store;
+    if is_true(applied.enable) {
+        return Ok(failed(alloc, Text::of(alloc, b"The capability oob is not built")?));
     }
-    if name == b"query-version".as_slice() {
-        return Ok(Ok(version(alloc)?));
+    let Applied { ret, changes, .. } = applied;
+    match returned(alloc, world, command, ret)? {
+        Ok(value) => Ok(Ended {
+            effect: Ok(value),
+            changes,
+        }),
+        Err(text) => Ok(failed(alloc, text)),
     }
-    if is_unbuilt(name) {
-        return Ok(Err(unbuilt_text(alloc, name)?));
+}
+
+fn applied_ending(
+    alloc: Global,
+    setting: &Setting,
+    store: &Store,
+    command: u32,
+    plan: &Plan,
+) -> Result<Ended, NoMemory>
+    requires id { command < length setting.now.schema.commands }
+    ensures effect { let applied = applied_of (facts_of setting.now) plan.now store.now in
+        IfOk result (λ ending. ending.effect ≡ applied_effect setting.now command applied) }
+    ensures changes { let applied = applied_of (facts_of setting.now) plan.now store.now in
+        IfOk result (λ ending. IfOk ending.effect (λ _.
+        committed ending.changes store.now ≡ left_by store.now applied)) }
+    ensures none { IfOk result (λ ending. OnErr ending.effect (ending.changes ≡ [])) }
+{
+    match apply(alloc, plan, store, setting.facts()) {
+        Ok(applied) => outcome_ending(alloc, setting.world(), store, command, applied),
+        Err(fault) => Ok(failed(alloc, failure_text(alloc, fault)?)),
     }
-    returned(alloc, world, command, Members::new(alloc).into_json())
 }
 
 fn command_name(world: &World, command: u32) -> &[u8]
@@ -129,23 +152,26 @@ fn command_name(world: &World, command: u32) -> &[u8]
     world.schema.command(command).name.as_slice()
 }
 
-/// What comes of the command of the number, called with the arguments. Until commands have what
-/// they do written beside the schema, most return the empty object.
-pub(crate) fn effect(
+/// What comes of the command of the number, by its plan and the store, which stays as it is. An
+/// error says that memory was wanting.
+pub(crate) fn ending(
     alloc: Global,
-    world: &World,
+    setting: &Setting,
+    store: &Store,
     command: u32,
-    arguments: Option<&Json>,
-) -> Result<Effect, NoMemory>
-    requires id { command < length world.now.schema.commands }
-    ensures { IfOk result (λ effect. effect
-        ≡ effect_of world.now command (option_copied arguments.entry)) }
+    plan: &Plan,
+) -> Result<Ended, NoMemory>
+    requires id { command < length setting.now.schema.commands }
+    ensures effect { IfOk result (λ ending. ending.effect
+        ≡ effect_of setting.now store.now command plan.now) }
+    ensures changes { let applied = applied_of (facts_of setting.now) plan.now store.now in
+        IfOk result (λ ending. IfOk ending.effect (λ _.
+        committed ending.changes store.now ≡ left_by store.now applied)) }
+    ensures none { IfOk result (λ ending. OnErr ending.effect (ending.changes ≡ [])) }
 {
-    named_effect(
-        alloc,
-        world,
-        command,
-        arguments,
-        command_name(world, command),
-    )
+    let name = command_name(setting.world(), command);
+    if is_unbuilt(name) {
+        return Ok(failed(alloc, unbuilt_text(alloc, name)?));
+    }
+    applied_ending(alloc, setting, store, command, plan)
 }

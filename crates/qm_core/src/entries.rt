@@ -5,6 +5,7 @@ use crate::lines::LineList;
 use qm_base::NoMemory;
 use qm_caps::Lane;
 use qm_json::Json;
+use qm_plan::Plan;
 use thiserror::Error;
 
 /// Why a session was closed. This project's own rule.
@@ -60,6 +61,8 @@ pub enum Entry {
         session: u32,
         /// Its number in the session.
         number: u64,
+        /// What its command does and returns, where the request was not refused.
+        plan: Option<Plan>,
         /// The reply.
         reply: Json,
         /// When, in microseconds.

@@ -13,6 +13,7 @@ pub mod lines;
 pub mod monitor;
 pub mod offers;
 mod outbox;
+mod plans;
 mod refusals;
 mod replies;
 pub mod requests;

@@ -2,15 +2,21 @@ ghost use Rattle.std.specs.Prelude.{◌≡◌, ◌≤◌, [], true, IfOk, OnOk};
 ghost use Rattle.std.specs.Result.{result_err};
 ghost use Rattle.qm_core.specs.Legal.{HasRoom, IsLegal, past_of};
 ghost use Rattle.qm_core.specs.Next.{closed_refusal};
+ghost use Rattle.qm_core.specs.Planned.{planned_of};
+ghost use Rattle.qm_core.specs.State.{store_of};
+ghost use Rattle.qm_core.specs.Worlds.{IsReady};
 ghost use Rattle.qm_core.specs.Standing.{was_opened, admitted_of, is_dropped, open_count_of, in_flight_of, running_of, named_of};
 ghost use Rattle.qm_core.specs.Transcript.{has_overrun};
 
 use crate::entries::StepFault;
 use crate::journal::{EntryList, Journal};
+use crate::plans::planned;
 use crate::requests::{Request, RequestName};
 use crate::sessions::Session;
-use crate::world::World;
+use crate::world::{Setting, World};
 use qm_base::NoMemory;
+use qm_bind::Binding;
+use qm_plan::{Plan, Store};
 use std::alloc::Global;
 use std::marker::Model;
 
@@ -27,16 +33,25 @@ pub struct Limits {
     pub text: u64,
 }
 
+fn first_store(alloc: Global, world: &World) -> Result<Store, NoMemory>
+    requires { IsReady world.now }
+    ensures { IfOk result (λ store. store ≡ store_of world.now []) }
+{
+    let Binding { cells, tallies, .. } = &world.binding;
+    Store::new(alloc, cells.as_slice(), tallies.as_slice())
+}
+
 /// The monitor: its journal, and what stands in it. Contracts see its world, its limits and its
 /// journal.
 #[derive(Drop)]
 pub struct Monitor {
-    world: World,
+    world: Setting,
     limits: Limits,
     journal: Journal,
     session: Session,
     running: Option<Request>,
     last_moment: u64,
+    store: Store,
 }
 
 impl Model for Monitor {
@@ -64,17 +79,20 @@ impl Monitor {
         requires some { 1 ≤ limits.entries }
         requires few { limits.entries ≤ MOST_ENTRIES }
         requires short { limits.text ≤ MOST_TEXT }
+        requires ready { IsReady world }
         ensures { IfOk result (λ monitor. monitor
             ≡ record { world = world; limits = limits; journal = [] }) }
     {
         let journal = Journal::new(alloc, limits.entries as usize)?;
+        let store = first_store(alloc, &world)?;
         Ok(Monitor {
-            world,
+            world: Setting::new(alloc, world)?,
             limits,
             journal,
             session: Session::unopened(alloc),
             running: None,
             last_moment: 0,
+            store,
         })
     }
 
@@ -91,7 +109,7 @@ impl Monitor {
     pub fn world(&self) -> &World
         ensures { result.now ≡ self.now.world }
     {
-        &self.world
+        self.world.world()
     }
 
     /// The request that was started and is not answered yet.
@@ -104,6 +122,18 @@ impl Monitor {
                 number: request.number,
             }),
             None => None,
+        }
+    }
+
+    /// The plan of the running request: its command's recipe with its arguments filled in; none
+    /// where no request runs, or the verdict on it is a refusal.
+    pub fn planned(&self, alloc: Global) -> Result<Option<Plan>, NoMemory>
+        ensures { let running = running_of (past_of self.now.journal) in
+            IfOk result (λ plan. plan ≡ planned_of self.now.world running) }
+    {
+        match &self.running {
+            Some(request) => planned(alloc, self.world.world(), request),
+            None => Ok(None),
         }
     }
 

@@ -1,22 +1,28 @@
-ghost use Rattle.std.specs.Prelude.{◌≡◌, [], ◌∷◌, codes, false, IfOk, Some};
+ghost use Rattle.std.specs.Prelude.{◌≡◌, ◌<◌, [], ◌∷◌, ◌++◌, length, codes, false, IfOk, Some};
 ghost use Rattle.std.specs.Option.{option_copied};
 ghost use Rattle.qm_json.specs.Members.{has_name};
 ghost use Rattle.qm_caps.specs.Greetings.{named};
+ghost use Rattle.qm_json.specs.declared.value.Json.TheVariants as json;
+ghost use Rattle.qm_plan.specs.Applying.{applied_of};
+ghost use Rattle.qm_plan.specs.Stores.{committed};
+ghost use Rattle.qm_core.specs.Effects.{effect_of, facts_of};
+ghost use Rattle.qm_core.specs.Planned.{planned_by, planned_for};
 ghost use Rattle.qm_core.specs.Refusals.{class_of, desc_of};
 ghost use Rattle.qm_core.specs.Replies.{effect_member, error_value, id_members, id_of, is_return, outcome_of, reply_to};
+ghost use Rattle.qm_core.specs.State.{effect_store, stored, verdict_store};
 ghost use Rattle.qm_core.specs.Standing.{negotiates};
 ghost use Rattle.qm_core.specs.Verdicts.{IsKnown};
 
-use crate::arguments::arguments_in;
-use crate::effects::{Effect, effect};
+use crate::effects::{Effect, Ended, ending};
 use crate::inputs::Input;
 use crate::judging::{command_name, members, verdict};
 use crate::refusals::{class, class_name, desc};
 use crate::requests::Request;
 use crate::verdicts::{Class, Refusal, Verdict};
-use crate::world::World;
+use crate::world::Setting;
 use qm_base::{NoMemory, Text};
 use qm_json::{Json, Members, has_member};
+use qm_plan::{Plan, Store, StoreChangeList};
 use std::alloc::Global;
 
 fn error(alloc: Global, class: Class, desc: Text) -> Result<Json, NoMemory>
@@ -56,23 +62,66 @@ fn effect_members(alloc: Global, effect: Effect) -> Result<Members, NoMemory>
     }
 }
 
+/// What a reply says before its id, and how the store is changed.
+#[derive(Drop)]
+struct Message {
+    members: Members,
+    changes: StoreChangeList,
+}
+
+fn refused_outcome(alloc: Global, refusal: &Refusal) -> Result<Message, NoMemory>
+    ensures value { IfOk result (λ outcome. outcome.members
+        ≡ named (codes "error") (error_value (class_of refusal.now) (desc_of refusal.now)) ∷ []) }
+    ensures no_id { IfOk result (λ outcome. has_name outcome.members (codes "id") ≡ false) }
+    ensures changes { IfOk result (λ outcome. outcome.changes ≡ []) }
+{
+    Ok(Message {
+        members: refused(alloc, refusal)?,
+        changes: StoreChangeList::new(alloc),
+    })
+}
+
+fn command_outcome(
+    alloc: Global,
+    setting: &Setting,
+    store: &Store,
+    command: u32,
+    plan: &Plan,
+) -> Result<Message, NoMemory>
+    requires id { command < length setting.now.schema.commands }
+    ensures value { IfOk result (λ outcome. outcome.members
+        ≡ effect_member (effect_of setting.now store.now command plan.now) ∷ []) }
+    ensures no_id { IfOk result (λ outcome. has_name outcome.members (codes "id") ≡ false) }
+    ensures changes { let effect = effect_of setting.now store.now command plan.now in
+        let applied = applied_of (facts_of setting.now) plan.now store.now in
+        IfOk result (λ outcome. committed outcome.changes store.now ≡ effect_store store.now applied effect) }
+{
+    let Ended { effect, changes } = ending(alloc, setting, store, command, plan)?;
+    let members = effect_members(alloc, effect)?;
+    Ok(Message { members, changes })
+}
+
 fn outcome(
     alloc: Global,
-    world: &World,
-    arguments: Option<&Json>,
+    setting: &Setting,
+    store: &Store,
+    request: &Request,
     verdict: &Verdict,
-) -> Result<Members, NoMemory>
-    requires known { IsKnown world.now verdict.now }
-    ensures outcome { IfOk result (λ members. members
-        ≡ outcome_of world.now (option_copied arguments.entry) verdict.now ∷ []) }
-    ensures no_id { IfOk result (λ members. has_name members (codes "id") ≡ false) }
+    plan: &Option<Plan>,
+) -> Result<Message, NoMemory>
+    requires known { IsKnown setting.now verdict.now }
+    requires planned { plan.now ≡ planned_by setting.now request.now verdict.now }
+    ensures value { IfOk result (λ outcome. outcome.members
+        ≡ outcome_of setting.now store.now request.now verdict.now ∷ []) }
+    ensures no_id { IfOk result (λ outcome. has_name outcome.members (codes "id") ≡ false) }
+    ensures changes { IfOk result (λ outcome. committed outcome.changes store.now
+        ≡ verdict_store setting.now store.now request.now verdict.now) }
 {
-    match verdict {
-        Verdict::Refused(refusal) => refused(alloc, refusal),
-        Verdict::Run(command) => {
-            let effect = effect(alloc, world, *command, arguments)?;
-            effect_members(alloc, effect)
-        }
+    let _ = request;
+    match (verdict, plan) {
+        (Verdict::Refused(refusal), _) => refused_outcome(alloc, refusal),
+        (Verdict::Run(command), Some(plan)) => command_outcome(alloc, setting, store, *command, plan),
+        (Verdict::Run(_), None) => unreachable!(),
     }
 }
 
@@ -85,19 +134,44 @@ fn id(input: &Input) -> Option<&Json>
     }
 }
 
-/// The reply to a request, by its mode at its admission (QMP specification, "Commands Responses").
-pub(crate) fn reply(alloc: Global, world: &World, request: &Request) -> Result<Json, NoMemory>
-    ensures { IfOk result (λ value. value ≡ reply_to world.now request.now) }
+fn with_id(alloc: Global, mut members: Members, input: &Input) -> Result<Json, NoMemory>
+    requires no_id { has_name members (codes "id") ≡ false }
+    ensures { IfOk result (λ value. value ≡ json.Obj (members ++ id_of input.now)) }
 {
-    let verdict = verdict(alloc, world, request.mode, &request.input)?;
-    let mut members = outcome(alloc, world, arguments_in(&request.input), &verdict)?;
-    match id(&request.input) {
+    match id(input) {
         Some(id) => {
             members.add(alloc, b"id", id.copy(alloc)?)?;
             Ok(members.into_json())
         }
         None => Ok(members.into_json()),
     }
+}
+
+/// A reply, and how the store is changed.
+#[derive(Drop)]
+pub(crate) struct Reply {
+    pub(crate) value: Json,
+    pub(crate) changes: StoreChangeList,
+}
+
+/// The reply to a request, by its mode at its admission, its plan and the store, which stays as it
+/// is (QMP specification, "Commands Responses").
+pub(crate) fn replied(
+    alloc: Global,
+    setting: &Setting,
+    store: &Store,
+    request: &Request,
+    plan: &Option<Plan>,
+) -> Result<Reply, NoMemory>
+    requires planned { plan.now ≡ planned_for setting.now request.now }
+    ensures value { IfOk result (λ reply. reply.value ≡ reply_to setting.now store.now request.now) }
+    ensures changes { IfOk result (λ reply. committed reply.changes store.now
+        ≡ stored setting.now store.now plan.now (reply_to setting.now store.now request.now)) }
+{
+    let verdict = verdict(alloc, setting.world(), request.mode, &request.input)?;
+    let Message { members, changes } = outcome(alloc, setting, store, request, &verdict, plan)?;
+    let value = with_id(alloc, members, &request.input)?;
+    Ok(Reply { value, changes })
 }
 
 /// Whether a reply is no error.

@@ -80,7 +80,7 @@ pub(crate) fn start_size(at: u64, session: u32, number: u64) -> u64
 }
 
 pub(crate) fn done_size(at: u64, session: u32, number: u64, reply: &Json, moment: u64) -> u64
-    ensures { result ≡ capped (length (entry_text_of at (Done session number reply.now moment))) }
+    ensures { result ≡ capped (length (entry_text_of at (Done session number None reply.now moment))) }
 {
     let before = number_size(at) + request_size(session, number) + number_size(moment);
     reply.written_length().saturating_add(before + 10)

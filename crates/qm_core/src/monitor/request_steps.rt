@@ -6,7 +6,10 @@ ghost use Rattle.qm_caps.specs.declared.mode.Lane.TheVariants.{InBand};
 ghost use Rattle.qm_core.specs.Legal.{past_of};
 ghost use Rattle.qm_core.specs.Next.{Next, Admit, Start, Finish, is_running, start_entry};
 ghost use Rattle.qm_core.specs.declared.entries.Entry.TheVariants as entry;
+ghost use Rattle.qm_plan.specs.Stores.{committed};
+ghost use Rattle.qm_core.specs.Planned.{planned_for, planned_of};
 ghost use Rattle.qm_core.specs.Replies.{reply_to, is_return};
+ghost use Rattle.qm_core.specs.State.{stored};
 ghost use Rattle.qm_core.specs.Standing.{is_ended, admitted_of, in_flight_of, mode_of, waiting_of, running_of, starting_of, named_of, negotiates};
 
 use crate::entries::{Entry, StepFault};
@@ -14,12 +17,13 @@ use crate::inputs::Input;
 use crate::lines::line;
 use crate::monitor::Monitor;
 use crate::offers::{Offer, Owners};
-use crate::replies;
+use crate::replies::{self, Reply};
 use crate::requests::{Admitted, Request, RequestName, Started};
-use crate::world::World;
+use crate::world::Setting;
 use qm_base::{NoMemory, Shared, Text};
 use qm_caps::{Lane, bound};
 use qm_json::Json;
+use qm_plan::{Plan, Store, StoreChangeList};
 use std::alloc::Global;
 
 /// A reply to a request, and what it brings about.
@@ -27,21 +31,32 @@ use std::alloc::Global;
 struct Answer {
     reply: Json,
     line: Shared<Text>,
+    changes: StoreChangeList,
     opens_commands: bool,
 }
 
-fn answer_to(alloc: Global, world: &World, request: &Request) -> Result<Answer, NoMemory>
-    ensures reply { IfOk result (λ answer. answer.reply ≡ reply_to world.now request.now) }
-    ensures line { IfOk result (λ answer. answer.line ≡ printed (reply_to world.now request.now)) }
+fn answer_to(
+    alloc: Global,
+    world: &Setting,
+    store: &Store,
+    request: &Request,
+    plan: &Option<Plan>,
+) -> Result<Answer, NoMemory>
+    requires planned { plan.now ≡ planned_for world.now request.now }
+    ensures reply { IfOk result (λ answer. answer.reply ≡ reply_to world.now store.now request.now) }
+    ensures line { IfOk result (λ answer. answer.line ≡ printed (reply_to world.now store.now request.now)) }
     ensures mode { IfOk result (λ answer. answer.opens_commands
-        ≡ (negotiates (Some request.now) && is_return (reply_to world.now request.now))) }
+        ≡ (negotiates (Some request.now) && is_return (reply_to world.now store.now request.now))) }
+    ensures store { IfOk result (λ answer. committed answer.changes store.now
+        ≡ stored world.now store.now plan.now (reply_to world.now store.now request.now)) }
 {
-    let reply = replies::reply(alloc, world, request)?;
-    let line = line(alloc, &reply)?;
-    let opens_commands = replies::negotiates(request) && replies::is_return(&reply);
+    let Reply { value, changes } = replies::replied(alloc, world, store, request, plan)?;
+    let line = line(alloc, &value)?;
+    let opens_commands = replies::negotiates(request) && replies::is_return(&value);
     Ok(Answer {
-        reply,
+        reply: value,
         line,
+        changes,
         opens_commands,
     })
 }
@@ -175,8 +190,9 @@ impl Monitor {
         Ok(request)
     }
 
-    /// Answers the running request at a moment, and puts the reply into the outbox of its session
-    /// while that is open. The entry's moment is not before any other of the journal.
+    /// Answers the running request at a moment by its plan, and puts the reply into the outbox of
+    /// its session while that is open; where the reply is no error, the store is what the plan
+    /// leaves. The entry's moment is not before any other of the journal.
     ///
     /// `NotRunning`: this request is not the running one. `JournalFull`. `Memory`. A refusal leaves
     /// the monitor as it was.
@@ -185,8 +201,10 @@ impl Monitor {
         alloc: Global,
         session: u32,
         number: u64,
+        plan: Option<Plan>,
         moment: u64,
     ) -> Result<(), StepFault>
+        requires planned { plan ≡ planned_of self.old.world (running_of (past_of self.old.journal)) }
         ensures next { result ≢ Err StepFault.Memory →
             Next self.old (Finish session number moment) (result_err result) self.new }
         ensures memory { result ≡ Err StepFault.Memory → self.new ≡ self.old }
@@ -195,17 +213,20 @@ impl Monitor {
         let Answer {
             reply,
             line,
+            changes,
             opens_commands,
-        } = answer_to(alloc, &self.world, request)?;
+        } = answer_to(alloc, &self.world, &self.store, request, &plan)?;
         let moment = moment.max(self.last_moment);
-        let bytes = self.finish_room(session, number, &reply, moment)?;
+        let bytes = self.finish_room(session, number, &plan, &reply, moment)?;
         self.session.answer(line, opens_commands)?;
+        self.store.commit(changes);
         self.running = None;
         self.last_moment = moment;
         self.journal.put(
             Entry::Done {
                 session,
                 number,
+                plan,
                 reply,
                 moment,
             },

@@ -18,6 +18,7 @@ use crate::monitor::Monitor;
 use crate::sizes::{admit_size, done_size, eof_size, open_size, start_size, take_size};
 use qm_caps::Lane;
 use qm_json::Json;
+use qm_plan::Plan;
 
 impl Monitor {
     fn next_number(&self) -> u64
@@ -78,11 +79,13 @@ impl Monitor {
         &self,
         session: u32,
         number: u64,
+        plan: &Option<Plan>,
         reply: &Json,
         moment: u64,
     ) -> Result<u64, StepFault>
-        ensures { Placed self.now (Done session number reply.now moment) result }
+        ensures { Placed self.now (Done session number plan.now reply.now moment) result }
     {
+        let _ = plan;
         let at = self.next_number();
         self.room(
             done_size(at, session, number, reply, moment),

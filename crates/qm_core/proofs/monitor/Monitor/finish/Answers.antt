@@ -1,4 +1,4 @@
-use Rattle.std.proofs.Common.{rules}
+use Rattle.std.proofs.Common.{◌∙◌, rules}
 use Rattle.qm_core.proofs.KeptMonitors.{sound-done}
 use Rattle.qm_core.proofs.monitor.Monitor.finish.Goals as goal
 
@@ -7,4 +7,4 @@ invariant_of-self-2 c =
     let ok = rw (← c.self.view_is) at c.in_ok-request.ensures in
     let made = c.in_ok-reply.ensures in
     let placed = rw (← c.self.view_is) at c.in_ok-bytes.ensures in
-    sound-done c.self.inside _ _ _ _ c.in_ok-request.request.now _ _ _ _ _ _ c.self.invariant ok.runs ok.named.0 ok.named.1 ok.first made.reply made.line made.mode c.max-moment.ensures (search rules) placed.placed c.in_ok-answer.ensures.ok c.put.ensures
+    sound-done c.self.inside _ _ _ _ c.in_ok-request.request.now _ _ _ _ _ _ _ _ c.self.invariant ok.runs ok.named.0 ok.named.1 ok.first (rw (← c.self.view_is) at c.requires.planned) made.reply made.line made.mode c.max-moment.ensures (search rules) (c.commit.ensures ∙ made.store) placed.placed c.in_ok-answer.ensures.ok c.put.ensures

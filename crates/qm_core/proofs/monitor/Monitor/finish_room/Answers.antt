@@ -5,4 +5,4 @@ use Rattle.qm_core.proofs.monitor.Monitor.finish_room.Goals as goal
 pub returns : goal.returns
 returns c =
     let found = c.room.ensures in
-    placed c.args.self.now (Done c.args.session c.args.number c.args.reply.now c.args.moment) _ _ _ _ found.short c.next_number-at.ensures c.done_size.ensures c.open_count.ensures.exact found.fault found.value found.room
+    placed c.args.self.now (Done c.args.session c.args.number c.args.plan.now c.args.reply.now c.args.moment) _ _ _ _ found.short c.next_number-at.ensures c.done_size.ensures c.open_count.ensures.exact found.fault found.value found.room
