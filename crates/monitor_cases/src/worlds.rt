@@ -5,22 +5,34 @@ use qapi_check::load_schema;
 use qapi_load::{FileList, LibraryFile, MemoryLibrary};
 use qapi_types::Schema;
 use qm_base::{CallList, Text};
+use qm_bind::bind;
 use qm_core::World;
-use qm_json::Json;
+use qm_read::read;
 use std::alloc::Global;
 use std::test::Fail;
 
-fn world(schema: Schema) -> World {
-    World {
+/// What clients are told of a schema.
+const INTROSPECTION: &[u8] = b"[{\"name\": \"str\", \"meta-type\": \"builtin\", \"json-type\": \"string\"}]";
+
+/// The world of a schema and a bind file; its introspection is an array of one object.
+fn world(alloc: Global, schema: Schema, bound: &[u8]) -> Result<World, Fail> {
+    let Ok(binding) = bind(alloc, &schema, bound) else {
+        return Err(Fail::from("the bind file is refused"));
+    };
+    let Ok(introspection) = read(alloc, INTROSPECTION) else {
+        return Err(Fail::from("the introspection is no JSON"));
+    };
+    Ok(World {
         schema,
-        introspection: Json::Null,
-    }
+        introspection,
+        binding,
+    })
 }
 
 /// The world without a schema's file.
 pub(crate) fn prelude_world(alloc: Global) -> Result<World, Fail> {
     match check_sources(alloc, &[], &[]) {
-        Ok(schema) => Ok(world(schema)),
+        Ok(schema) => world(alloc, schema, b"{}"),
         Err(_) => Err(Fail::from("the definitions are refused")),
     }
 }
@@ -33,11 +45,11 @@ fn library(alloc: Global, name: &[u8], text: &[u8]) -> Result<MemoryLibrary, Fai
     Ok(MemoryLibrary::new(alloc, files, CallList::new(alloc)))
 }
 
-/// The world of a schema's text.
-pub(crate) fn world_of(alloc: Global, text: &[u8]) -> Result<World, Fail> {
+/// The world of the texts of a schema and a bind file.
+pub(crate) fn world_of(alloc: Global, text: &[u8], bound: &[u8]) -> Result<World, Fail> {
     let mut library = library(alloc, b"main", text)?;
     match load_schema(alloc, &mut library, Some(b"main"), &[]) {
-        Ok(schema) => Ok(world(schema)),
+        Ok(schema) => world(alloc, schema, bound),
         Err(_) => Err(Fail::from("the schema is refused")),
     }
 }

@@ -5,6 +5,7 @@ use qm_offline::run_offline;
 use std::alloc::{AllocError, Global};
 use std::test::Fail;
 
+mod bound;
 mod conditions;
 mod grammar;
 mod lengths;
@@ -192,6 +193,24 @@ fn runs_over_a_schema(rt: HostRuntime) -> Result<(), Fail> {
     assert_eq!(rt; unread.as_str(), "6\nerror: cannot read s1.json\n");
     let unread = run(alloc, words, served::FILES, 2, 0)?;
     assert_eq!(rt; unread.as_str(), "6\nerror: cannot read a.script\n");
+    Ok(())
+}
+
+#[test]
+fn runs_over_a_bind_file(rt: HostRuntime) -> Result<(), Fail> {
+    let alloc = rt.alloc();
+    let files = format!(in alloc; "{}{}", bound::FILES, served::FILES)?;
+    assert_eq!(rt;
+        other_answers(alloc, files.as_str(), bound::PLAYED)?.as_str(),
+        ""
+    );
+    assert_eq!(rt;
+        other_answers(alloc, files.as_str(), bound::REFUSED)?.as_str(),
+        ""
+    );
+    let words = "replay --schema s1.json --bind b1.json a.script";
+    let unread = run(alloc, words, files.as_str(), 2, 0)?;
+    assert_eq!(rt; unread.as_str(), "6\nerror: cannot read b1.json\n");
     Ok(())
 }
 

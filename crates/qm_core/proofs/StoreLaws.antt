@@ -29,7 +29,7 @@ told_by_verdict world store request (Run command) ids none =
     told_by_effect store (applied_of (facts_of world) plan store) (effect_of world store command plan) ids none
 
 -- the store after the reply to a request is that after its verdict
-pub stored-by-verdict : (world : World) (store : Contents) (request : Request) →
+pub stored_by_verdict : (world : World) (store : Contents) (request : Request) →
     stored world store (planned_for world request) (reply_to world store request) ≡ verdict_store world store request (verdict_of world request.mode request.input)
-stored-by-verdict world store request =
+stored_by_verdict world store request =
     told_by_verdict world store request (verdict_of world request.mode request.input) (id_of request.input) (ids_are_no_return request.input)

@@ -3,7 +3,7 @@
 ghost use Rattle.std.specs.Prelude.{◌≡◌, ◌<◌, [], length, IfOk};
 ghost use Rattle.std.specs.Option.{option_copied};
 ghost use Rattle.qm_plan.specs.Plans.{arguments_of, plan_of};
-ghost use Rattle.qm_core.specs.Planned.{plain_recipe, plan_for, planned_for, recipe_at};
+ghost use Rattle.qm_core.specs.Planned.{plain_recipe, planned_by, planned_for, recipe_at};
 
 use crate::arguments::arguments_in;
 use crate::judging::verdict;
@@ -41,6 +41,23 @@ fn command_plan(
     }
 }
 
+fn planned_by(
+    alloc: Global,
+    world: &World,
+    request: &Request,
+    verdict: &Verdict,
+) -> Result<Option<Plan>, NoMemory>
+    ensures { IfOk result (λ plan. plan ≡ planned_by world.now request.now verdict.now) }
+{
+    match verdict {
+        Verdict::Run(command) => {
+            let arguments = arguments_in(&request.input);
+            Ok(Some(command_plan(alloc, world, *command, arguments)?))
+        }
+        Verdict::Refused(_) => Ok(None),
+    }
+}
+
 /// The plan of a request; one that is refused has none.
 pub(crate) fn planned(
     alloc: Global,
@@ -49,11 +66,6 @@ pub(crate) fn planned(
 ) -> Result<Option<Plan>, NoMemory>
     ensures { IfOk result (λ plan. plan ≡ planned_for world.now request.now) }
 {
-    match verdict(alloc, world, request.mode, &request.input)? {
-        Verdict::Run(command) => {
-            let plan = command_plan(alloc, world, command, arguments_in(&request.input))?;
-            Ok(Some(plan))
-        }
-        Verdict::Refused(_) => Ok(None),
-    }
+    let verdict = verdict(alloc, world, request.mode, &request.input)?;
+    planned_by(alloc, world, request, &verdict)
 }

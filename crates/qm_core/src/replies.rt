@@ -11,7 +11,7 @@ ghost use Rattle.qm_core.specs.Refusals.{class_of, desc_of};
 ghost use Rattle.qm_core.specs.Replies.{effect_member, error_value, id_members, id_of, is_return, outcome_of, reply_to};
 ghost use Rattle.qm_core.specs.State.{effect_store, stored, verdict_store};
 ghost use Rattle.qm_core.specs.Standing.{negotiates};
-ghost use Rattle.qm_core.specs.Verdicts.{IsKnown};
+ghost use Rattle.qm_core.specs.Verdicts.{IsKnown, verdict_of};
 
 use crate::effects::{Effect, Ended, ending};
 use crate::inputs::Input;
@@ -154,8 +154,29 @@ pub(crate) struct Reply {
     pub(crate) changes: StoreChangeList,
 }
 
+fn message(
+    alloc: Global,
+    setting: &Setting,
+    store: &Store,
+    request: &Request,
+    plan: &Option<Plan>,
+) -> Result<Message, NoMemory>
+    requires planned { plan.now ≡ planned_for setting.now request.now }
+    ensures value { let verdict = verdict_of setting.now request.now.mode request.now.input in
+        IfOk result (λ message. message.members
+        ≡ outcome_of setting.now store.now request.now verdict ∷ []) }
+    ensures no_id { IfOk result (λ message. has_name message.members (codes "id") ≡ false) }
+    ensures changes { let verdict = verdict_of setting.now request.now.mode request.now.input in
+        IfOk result (λ message. committed message.changes store.now
+        ≡ verdict_store setting.now store.now request.now verdict) }
+{
+    let verdict = verdict(alloc, setting.world(), request.mode, &request.input)?;
+    outcome(alloc, setting, store, request, &verdict, plan)
+}
+
 /// The reply to a request, by its mode at its admission, its plan and the store, which stays as it
 /// is (QMP specification, "Commands Responses").
+#[tactic(auto, using(crate::proofs::StoreLaws::stored_by_verdict))]
 pub(crate) fn replied(
     alloc: Global,
     setting: &Setting,
@@ -168,8 +189,7 @@ pub(crate) fn replied(
     ensures changes { IfOk result (λ reply. committed reply.changes store.now
         ≡ stored setting.now store.now plan.now (reply_to setting.now store.now request.now)) }
 {
-    let verdict = verdict(alloc, setting.world(), request.mode, &request.input)?;
-    let Message { members, changes } = outcome(alloc, setting, store, request, &verdict, plan)?;
+    let Message { members, changes } = message(alloc, setting, store, request, plan)?;
     let value = with_id(alloc, members, &request.input)?;
     Ok(Reply { value, changes })
 }

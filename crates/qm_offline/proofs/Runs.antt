@@ -1,5 +1,4 @@
 -- The answer of a run from that of its part.
-use Rattle.qm_json.specs.{Printing.printed, declared.value.Json.Json}
 use Rattle.std.proofs.Common.{codes, ◌≡◌, ◌≢◌, ℕ, ◌==◌, Bool, true, false, cond, List, [], ◌∷◌, ◌++◌, ◌⊎◌, Option, Some, None, option_map, unwrap_or, Result, Ok, Err, refl, ap, sym, ◌∙◌, subst, append-nil, inl, inr}
 use Rattle.std.specs.{Str.bytes_eq}
 use Rattle.std.proofs.lemmas.Slice.Eq.{bytes_eq-Decides}
@@ -14,12 +13,12 @@ use Rattle.qm_core.proofs.Transcripts.{taken_first}
 use Rattle.qm_script.specs.{Endings.end_of, Endings.stop_end_of, declared.endings.Refused.Refused, declared.endings.Stop.Stop}
 use Rattle.qm_script.specs.declared.endings.Stop.TheVariants.{BadLine, Step, SessionsFull, JournalFull}
 use Rattle.qm_script.proofs.LegalPlays.{script_legal}
-use Rattle.qm_offline.specs.{Answers.Ran, Answers.Ends, Answers.Exactly, Answers.Gives, Answers.Answers, Answers.IsLegalOver, Answers.PutsUnread, Answers.Schema, Answers.Stood}
-use Rattle.qm_offline.specs.Causes.{is_full, needs_script, Loads, Refuses, Accepts, Finds, Misses, PlaysTo, Stops, MayRead}
-use Rattle.qm_offline.specs.Output.{Output, Outside, output_over, schema_output, command_output, replay_output, end_status_of, limits_of, ok_line, play_of, play_from, play_over, journal_for, schema_of, world_of, cannot_read}
+use Rattle.qm_offline.specs.{Answers.Ran, Answers.Ends, Answers.Exactly, Answers.Gives, Answers.Answers, Answers.Bind, Answers.IsLegalFor, Answers.IsLegalOver, Answers.PutsUnread, Answers.Schema, Answers.Stood}
+use Rattle.qm_offline.specs.Causes.{is_full, needs_script, Loads, Refuses, Unbound, Misbinds, Accepts, Finds, Misses, PlaysTo, Stops, MayRead, NamesScript}
+use Rattle.qm_offline.specs.Output.{Output, Outside, FileFault, InBind, InSchema, NoBind, bind_text, output_over, world_for, world_output, command_output, replay_output, end_status_of, introspection_line, limits_of, ok_line, play_of, play_from, play_over, journal_for, schema_of, cannot_read}
 use Rattle.qapi_check.specs.{Checking.table_of, declared.loading.SchemaFault.SchemaFault}
 use Rattle.qm_offline.specs.declared.loading.Command.{Command, TheVariants.Check, TheVariants.Introspect, TheVariants.Replay}
-use Rattle.qm_offline.specs.{Loading.IsLoaded, Words.Words}
+use Rattle.qm_offline.specs.{Loading.IsLoaded, Loading.world_in, Words.Words}
 use Rattle.qm_offline.specs.declared.loading.Loaded.{Loaded}
 use Rattle.qm_core.specs.declared.{monitor.Limits.Limits, world.World.World}
 use Rattle.qm_script.specs.Playing.{played_of}
@@ -40,19 +39,19 @@ pub files-told : (tells : Option (List NamedText)) (other told : List NamedText)
 files-told None other told e = cc
 files-told (Some files) other told e = ap (λ (t : Option (List NamedText)). unwrap_or t []) e
 
--- files of one script
-abbrev read_file : List ℕ → Option (List ℕ) → List NamedText
-read_file name None = []
-read_file name (Some text) = record { name = name; text = text } ∷ []
+-- files of which one is of the name, where there is a text
+abbrev pub named_files : List ℕ → Option (List ℕ) → List NamedText
+named_files name None = []
+named_files name (Some text) = record { name = name; text = text } ∷ []
 
 name_is : (name : List ℕ) → bytes_eq name name ≡ true
 name_is name = (bytes_eq-Decides name name).1 refl
 
-script-answer : (tells : Option (List NamedText)) (name : List ℕ) (answer : Option (List ℕ)) →
-    ((told : List NamedText) → tells ≡ Some told → answer ≡ text_of name told) → text_of name (run_files tells (read_file name answer)) ≡ answer
-script-answer None name None value = refl
-script-answer None name (Some text) value = rw (name_is name) refl
-script-answer (Some told) name answer value = sym (value told refl)
+pub named_text : (tells : Option (List NamedText)) (name : List ℕ) (answer : Option (List ℕ)) →
+    ((told : List NamedText) → tells ≡ Some told → answer ≡ text_of name told) → text_of name (run_files tells (named_files name answer)) ≡ answer
+named_text None name None value = refl
+named_text None name (Some text) value = rw (name_is name) refl
+named_text (Some told) name answer value = sym (value told refl)
 
 -- what stood outside where the schema and the script are read in the same files
 abbrev pub schema_over : Option Words → List NamedText → Result Parts SchemaFault
@@ -63,32 +62,43 @@ pub schema-over : (words : Option Words) (files : List NamedText) → Schema wor
 schema-over None files = tt
 schema-over (Some w) files = refl
 
-abbrev pub outside_over : Option Words → List NamedText → Outside
-outside_over words files = record { schema = schema_over words files; files = files }
+abbrev pub bind_for : Option Words → List NamedText → Option (List ℕ)
+bind_for None files = None
+bind_for (Some w) files = bind_text w.bind files
+
+pub bind-for : (words : Option Words) (files : List NamedText) → Bind words files (bind_for words files)
+bind-for None files = tt
+bind-for (Some w) files = refl
+
+abbrev pub outside_over : Option Words → List NamedText → List NamedText → Outside
+outside_over words files bind_files = record { schema = schema_over words files; bind = bind_for words bind_files; files = files }
 
 abbrev outside_for : Ran → Outside
-outside_for ran = outside_over ran.words (run_files ran.files [])
+outside_for ran = outside_over ran.words (run_files ran.files []) (run_files ran.files [])
 
 stood_for : (ran : Ran) → Stood ran (outside_for ran)
 stood_for ran = record {
   files = run_files ran.files [];
   schema = schema-over ran.words (run_files ran.files []);
   schema_told = λ told e. files-told ran.files [] told e;
+  bind_files = run_files ran.files [];
+  bind = bind-for ran.words (run_files ran.files []);
+  bind_told = λ told e. files-told ran.files [] told e;
   script_told = λ told e. files-told ran.files [] told e;
 }
 
--- the output where the schema is refused, or has no fault
-loads_output : (words : Option Words) (outside : Outside) (answer : Result Parts SchemaFault) (loads : Loads words outside answer) →
-    output_over words outside ≡ schema_output loads.asked outside.files answer
+-- the output where a file is refused, or none is
+loads_output : (words : Option Words) (outside : Outside) (answer : Result World FileFault) (loads : Loads words outside answer) →
+    output_over words outside ≡ world_output loads.asked outside.files answer
 loads_output words outside answer loads =
-    ap (λ (w : Option Words). output_over w outside) loads.words_ask ∙ ap (schema_output loads.asked outside.files) loads.answers
+    ap (λ (w : Option Words). output_over w outside) loads.words_ask ∙ ap (world_output loads.asked outside.files) loads.answers
 
 finds_output : (words : Option Words) (outside : Outside) (script : Option (List ℕ)) (finds : Finds words outside script) →
-    output_over words outside ≡ replay_output finds.name (option_map (play_of finds.parts finds.loads.asked.entries) script)
+    output_over words outside ≡ replay_output finds.name (option_map (play_of finds.world finds.loads.asked.entries) script)
 finds_output words outside script finds =
-    loads_output words outside (Ok finds.parts) finds.loads
-    ∙ ap (command_output finds.parts outside.files finds.loads.asked.entries) finds.replay
-    ∙ ap (λ (t : Option (List ℕ)). replay_output finds.name (option_map (play_of finds.parts finds.loads.asked.entries) t)) finds.found
+    loads_output words outside (Ok finds.world) finds.loads
+    ∙ ap (command_output finds.world outside.files finds.loads.asked.entries) finds.replay
+    ∙ ap (λ (t : Option (List ℕ)). replay_output finds.name (option_map (play_of finds.world finds.loads.asked.entries) t)) finds.found
 
 plays_status : (words : Option Words) (outside : Outside) (end : Option Refused) → PlaysTo words outside end →
     (output_over words outside).status ≡ end_status_of (end_of end)
@@ -109,20 +119,24 @@ stop_status full words outside stops =
     ∙ stop_number stops.line.line stops.line.stop
     ∙ ap (λ (b : Bool). cond b 9 5) stops.cause
 
-alone_status : (parts : Parts) (files : List NamedText) (entries : ℕ) (command : Command) → needs_script command ≡ false →
-    (command_output parts files entries command).status ≡ 0
-alone_status parts files entries Check alone = refl
-alone_status parts files entries Introspect alone = refl
-alone_status parts files entries (Replay name) alone = absurd cc
+alone_status : (world : World) (files : List NamedText) (entries : ℕ) (command : Command) → needs_script command ≡ false →
+    (command_output world files entries command).status ≡ 0
+alone_status world files entries Check alone = refl
+alone_status world files entries Introspect alone = refl
+alone_status world files entries (Replay name) alone = absurd cc
 
 whole_status : (words : Option Words) (outside : Outside) → Accepts words outside ⊎ PlaysTo words outside None → (output_over words outside).status ≡ 0
 whole_status words outside (inl accepts) =
-    ap (λ (o : Output). o.status) (loads_output words outside (Ok accepts.parts) accepts.loads)
-    ∙ alone_status accepts.parts outside.files accepts.loads.asked.entries accepts.loads.asked.command accepts.alone
+    ap (λ (o : Output). o.status) (loads_output words outside (Ok accepts.world) accepts.loads)
+    ∙ alone_status accepts.world outside.files accepts.loads.asked.entries accepts.loads.asked.command accepts.alone
 whole_status words outside (inr plays) = plays_status words outside None plays
 
 schema_status : (words : Option Words) (outside : Outside) → Refuses words outside → (output_over words outside).status ≡ 3
-schema_status words outside refuses = ap (λ (o : Output). o.status) (loads_output words outside (Err refuses.fault) refuses.loads)
+schema_status words outside refuses = ap (λ (o : Output). o.status) (loads_output words outside (Err (InSchema refuses.fault)) refuses.loads)
+
+bind_status : (words : Option Words) (outside : Outside) → Unbound words outside ⊎ Misbinds words outside → (output_over words outside).status ≡ 4
+bind_status words outside (inl unbound) = ap (λ (o : Output). o.status) (loads_output words outside (Err (NoBind unbound.name)) unbound.loads)
+bind_status words outside (inr misbinds) = ap (λ (o : Output). o.status) (loads_output words outside (Err (InBind misbinds.name misbinds.fault)) misbinds.loads)
 
 script_status : (words : Option Words) (outside : Outside) → Misses words outside ⊎ Stops false words outside → (output_over words outside).status ≡ 5
 script_status words outside (inl misses) = ap (λ (o : Output). o.status) (finds_output words outside None misses)
@@ -137,8 +151,9 @@ Says words outside n =
     cond (n == 0) (Accepts words outside ⊎ PlaysTo words outside None)
     (cond (n == 2) (words ≡ None)
     (cond (n == 3) (Refuses words outside)
+    (cond (n == 4) (Unbound words outside ⊎ Misbinds words outside)
     (cond (n == 5) (Misses words outside ⊎ Stops false words outside)
-    (cond (n == 9) (Stops true words outside) ⊥))))
+    (cond (n == 9) (Stops true words outside) ⊥)))))
 
 stop_says : (words : Option Words) (outside : Outside) (line : Refused) (stop : Stop) → PlaysTo words outside (Some line) → line.stop ≡ stop →
     Says words outside (end_status_of (stop_end_of line.line stop))
@@ -151,27 +166,29 @@ end_says : (words : Option Words) (outside : Outside) (end : Option Refused) →
 end_says words outside None plays = inr plays
 end_says words outside (Some line) plays = stop_says words outside line line.stop plays refl
 
-script_says : (words : Option Words) (outside : Outside) (parts : Parts) (loads : Loads words outside (Ok parts)) (name : List ℕ) (script : Option (List ℕ)) →
+script_says : (words : Option Words) (outside : Outside) (world : World) (loads : Loads words outside (Ok world)) (name : List ℕ) (script : Option (List ℕ)) →
     loads.asked.command ≡ Replay name → text_of name outside.files ≡ script →
-    Says words outside (replay_output name (option_map (play_of parts loads.asked.entries) script)).status
-script_says words outside parts loads name None replay found = inl record { parts = parts; loads = loads; name = name; replay = replay; found = found }
-script_says words outside parts loads name (Some script) replay found =
-    end_says words outside (play_of parts loads.asked.entries script).refused
-    (record { script = script; finds = record { parts = parts; loads = loads; name = name; replay = replay; found = found }; end_is = refl })
+    Says words outside (replay_output name (option_map (play_of world loads.asked.entries) script)).status
+script_says words outside world loads name None replay found = inl record { world = world; loads = loads; name = name; replay = replay; found = found }
+script_says words outside world loads name (Some script) replay found =
+    end_says words outside (play_of world loads.asked.entries script).refused
+    (record { script = script; finds = record { world = world; loads = loads; name = name; replay = replay; found = found }; end_is = refl })
 
-command_says : (words : Option Words) (outside : Outside) (parts : Parts) (loads : Loads words outside (Ok parts)) (command : Command) → loads.asked.command ≡ command →
-    Says words outside (command_output parts outside.files loads.asked.entries command).status
-command_says words outside parts loads Check is = inl record { parts = parts; loads = loads; alone = ap needs_script is }
-command_says words outside parts loads Introspect is = inl record { parts = parts; loads = loads; alone = ap needs_script is }
-command_says words outside parts loads (Replay name) is = script_says words outside parts loads name (text_of name outside.files) is refl
+command_says : (words : Option Words) (outside : Outside) (world : World) (loads : Loads words outside (Ok world)) (command : Command) → loads.asked.command ≡ command →
+    Says words outside (command_output world outside.files loads.asked.entries command).status
+command_says words outside world loads Check is = inl record { world = world; loads = loads; alone = ap needs_script is }
+command_says words outside world loads Introspect is = inl record { world = world; loads = loads; alone = ap needs_script is }
+command_says words outside world loads (Replay name) is = script_says words outside world loads name (text_of name outside.files) is refl
 
-schema_says : (w : Words) (outside : Outside) (answer : Result Parts SchemaFault) → outside.schema ≡ answer → Says (Some w) outside (schema_output w outside.files answer).status
-schema_says w outside (Ok parts) is = command_says (Some w) outside parts (record { asked = w; words_ask = refl; answers = is }) w.command refl
-schema_says w outside (Err fault) is = record { fault = fault; loads = record { asked = w; words_ask = refl; answers = is } }
+world_says : (w : Words) (outside : Outside) (answer : Result World FileFault) → world_for w outside ≡ answer → Says (Some w) outside (world_output w outside.files answer).status
+world_says w outside (Ok world) is = command_says (Some w) outside world (record { asked = w; words_ask = refl; answers = is }) w.command refl
+world_says w outside (Err (InSchema fault)) is = record { fault = fault; loads = record { asked = w; words_ask = refl; answers = is } }
+world_says w outside (Err (NoBind name)) is = inl record { name = name; loads = record { asked = w; words_ask = refl; answers = is } }
+world_says w outside (Err (InBind name fault)) is = inr record { name = name; fault = fault; loads = record { asked = w; words_ask = refl; answers = is } }
 
 says : (words : Option Words) (outside : Outside) → Says words outside (output_over words outside).status
 says None outside = refl
-says (Some w) outside = schema_says w outside outside.schema refl
+says (Some w) outside = world_says w outside (world_for w outside) refl
 
 says_at : (words : Option Words) (outside : Outside) (n : ℕ) → n ≡ (output_over words outside).status → Says words outside n
 says_at words outside n is = subst (λ (k : ℕ). Says words outside k) (sym is) (says words outside)
@@ -180,36 +197,40 @@ says_at words outside n is = subst (λ (k : ℕ). Says words outside k) (sym is)
 empty_legal : (world : World) → IsLegal world []
 empty_legal world = record { ordered = tt; answered = tt }
 
-script_journal-legal : (parts : Parts) (entries : ℕ) (script : Option (List ℕ)) →
-    IsLegal (world_of parts) (unwrap_or (option_map (λ ended. ended.played.journal) (option_map (play_of parts entries) script)) [])
-script_journal-legal parts entries None = empty_legal (world_of parts)
-script_journal-legal parts entries (Some script) = script_legal (world_of parts) (limits_of entries) script
+script_journal-legal : (world : World) (entries : ℕ) (script : Option (List ℕ)) →
+    IsLegal world (unwrap_or (option_map (λ ended. ended.played.journal) (option_map (play_of world entries) script)) [])
+script_journal-legal world entries None = empty_legal world
+script_journal-legal world entries (Some script) = script_legal world (limits_of entries) script
 
-command_journal-legal : (parts : Parts) (files : List NamedText) (entries : ℕ) (command : Command) →
-    IsLegal (world_of parts) (unwrap_or (option_map (λ ended. ended.played.journal) (play_from parts files entries command)) [])
-command_journal-legal parts files entries Check = empty_legal (world_of parts)
-command_journal-legal parts files entries Introspect = empty_legal (world_of parts)
-command_journal-legal parts files entries (Replay name) = script_journal-legal parts entries (text_of name files)
+command_journal-legal : (world : World) (files : List NamedText) (entries : ℕ) (command : Command) →
+    IsLegal world (unwrap_or (option_map (λ ended. ended.played.journal) (play_from world files entries command)) [])
+command_journal-legal world files entries Check = empty_legal world
+command_journal-legal world files entries Introspect = empty_legal world
+command_journal-legal world files entries (Replay name) = script_journal-legal world entries (text_of name files)
 
-over_journal-legal : (w : Words) (files : List NamedText) (answer : Result Parts SchemaFault) →
+over_journal-legal : (w : Words) (files : List NamedText) (answer : Result World FileFault) →
     IsLegalOver answer (unwrap_or (option_map (λ ended. ended.played.journal) (play_over w files answer)) [])
-over_journal-legal w files (Ok parts) = command_journal-legal parts files w.entries w.command
+over_journal-legal w files (Ok world) = command_journal-legal world files w.entries w.command
 over_journal-legal w files (Err fault) = refl
 
-empty_legal-over : (answer : Result Parts SchemaFault) → IsLegalOver answer []
-empty_legal-over (Ok parts) = empty_legal (world_of parts)
-empty_legal-over (Err fault) = refl
-
-journal-legal : (words : Option Words) (outside : Outside) → IsLegalOver outside.schema (journal_for words outside)
-journal-legal None outside = empty_legal-over outside.schema
-journal-legal (Some w) outside = over_journal-legal w outside.files outside.schema
+journal-legal : (words : Option Words) (outside : Outside) → IsLegalFor words outside (journal_for words outside)
+journal-legal None outside = refl
+journal-legal (Some w) outside = over_journal-legal w outside.files (world_for w outside)
 
 -- and what each session was handed begins its transcript
-legal_begins : (answer : Result Parts SchemaFault) (journal : List Entry) → IsLegalOver answer journal → (s : ℕ) →
+empty_begins : (journal : List Entry) → journal ≡ [] → (s : ℕ) → IsPrefix (taken_of s (past_of journal)) (transcript_of s (past_of journal))
+empty_begins journal empty s =
+    subst (λ (j : List Entry). IsPrefix (taken_of s (past_of j)) (transcript_of s (past_of j))) (sym empty) (taken_first s [] tt)
+
+over_begins : (answer : Result World FileFault) (journal : List Entry) → IsLegalOver answer journal → (s : ℕ) →
     IsPrefix (taken_of s (past_of journal)) (transcript_of s (past_of journal))
-legal_begins (Ok parts) journal legal s = taken_first s (past_of journal) legal.ordered
-legal_begins (Err fault) journal legal s =
-    subst (λ (j : List Entry). IsPrefix (taken_of s (past_of j)) (transcript_of s (past_of j))) (sym legal) (taken_first s [] tt)
+over_begins (Ok world) journal legal s = taken_first s (past_of journal) legal.ordered
+over_begins (Err fault) journal legal s = empty_begins journal legal s
+
+legal_begins : (words : Option Words) (outside : Outside) (journal : List Entry) → IsLegalFor words outside journal → (s : ℕ) →
+    IsPrefix (taken_of s (past_of journal)) (transcript_of s (past_of journal))
+legal_begins None outside journal legal s = empty_begins journal legal s
+legal_begins (Some w) outside journal legal s = over_begins (world_for w outside) journal legal s
 
 -- status and bytes are those of the output
 abbrev IsPlain : Outside → Ran → ℕ → Type 0
@@ -243,12 +264,18 @@ gives outside ran status plain wanting part =
       sink_part = part;
       whole = exactly ran.words outside 0 status _ (λ e. cc) (λ e. cc) (λ e. cc) number (λ cause. cause) (whole_status ran.words outside);
       schema = exactly ran.words outside 3 status _ (λ e. cc) (λ e. cc) (λ e. cc) number (λ cause. cause) (schema_status ran.words outside);
+      bind = exactly ran.words outside 4 status _ (λ e. cc) (λ e. cc) (λ e. cc) number (λ cause. cause) (bind_status ran.words outside);
       script = exactly ran.words outside 5 status _ (λ e. cc) (λ e. cc) (λ e. cc) number (λ cause. cause) (script_status ran.words outside);
       full = exactly ran.words outside 9 status _ (λ e. cc) (λ e. cc) (λ e. cc) number (λ cause. cause) (stop_status true ran.words outside);
     }
 
+nothing_named : (name : List ℕ) → MayRead None name → ⊥
+nothing_named name (inl (inl named)) = named
+nothing_named name (inl (inr named)) = named
+nothing_named name (inr named) = named
+
 unnamed : (words : Option Words) (name : List ℕ) → words ≡ None → MayRead words name → ⊥
-unnamed words name none named = subst (λ (w : Option Words). MayRead w name) none named
+unnamed words name none named = nothing_named name (subst (λ (w : Option Words). MayRead w name) none named)
 
 answers : (outside : Outside) (ran : Ran) (status : ℕ) → Stood ran outside →
     Gives outside ran status → (status ≡ 6 → Unread ran) → (status ≢ 1 → status ≢ 6 → status ≢ 7 → ran.library_now ≡ ran.library_before) →
@@ -260,7 +287,7 @@ answers outside ran status stood given unread kept failed still =
       stood = stood;
       gives = given;
       legal = legal;
-      begins = legal_begins outside.schema (journal_for ran.words outside) legal;
+      begins = legal_begins ran.words outside (journal_for ran.words outside) legal;
       usage_only = λ two. says_at ran.words outside 2 (sym two ∙ given.status_is (λ e. cc) (λ e. cc) (λ e. cc));
       usage = λ none one seven. given.status_is one (λ six. unnamed ran.words ran.failed_name none (unread six).named) seven ∙ usage_status ran.words outside none;
       library_failed = λ six. (unread six).rose;
@@ -287,43 +314,49 @@ done_with outside ran status output stood kept meant ends =
     done outside ran status stood kept (subst (λ (o : Output). Ends o.bytes o.status ran.sink status) (sym meant) ends)
 
 -- what stood outside where what was ordered is loaded, and the script is looked for in some files
-abbrev loaded_outside : Parts → List NamedText → Outside
-loaded_outside parts files = record { schema = Ok parts; files = files }
+abbrev loaded_outside : Words → List NamedText → List NamedText → List NamedText → Outside
+loaded_outside w files bind_files script_files = record { schema = schema_of w files; bind = bind_text w.bind bind_files; files = script_files }
+
+abbrev outside_of : (ran : Ran) (loaded : Loaded) → IsLoaded ran.files ran.words loaded → List NamedText → Outside
+outside_of ran loaded is files = loaded_outside is.asked is.files is.bind_files files
 
 stood_loaded : (ran : Ran) (loaded : Loaded) (is : IsLoaded ran.files ran.words loaded) (files : List NamedText) →
-    ((told : List NamedText) → ran.files ≡ Some told → files ≡ told) → Stood ran (loaded_outside is.parts files)
+    ((told : List NamedText) → ran.files ≡ Some told → files ≡ told) → Stood ran (outside_of ran loaded is files)
 stood_loaded ran loaded is files told = record {
   files = is.files;
-  schema = subst (λ (o : Option Words). Schema o is.files (Ok is.parts)) (sym is.words_ask) (sym is.schema);
+  schema = subst (λ (o : Option Words). Schema o is.files (schema_of is.asked is.files)) (sym is.words_ask) refl;
   schema_told = is.told;
+  bind_files = is.bind_files;
+  bind = subst (λ (o : Option Words). Bind o is.bind_files (bind_text is.asked.bind is.bind_files)) (sym is.words_ask) refl;
+  bind_told = is.bind_told;
   script_told = told;
 }
 
-abbrev loads_for : (ran : Ran) (loaded : Loaded) (is : IsLoaded ran.files ran.words loaded) (files : List NamedText) → Loads ran.words (loaded_outside is.parts files) (Ok is.parts)
-loads_for ran loaded is files = record { asked = is.asked; words_ask = is.words_ask; answers = refl }
+abbrev loads_for : (ran : Ran) (loaded : Loaded) (is : IsLoaded ran.files ran.words loaded) (files : List NamedText) → Loads ran.words (outside_of ran loaded is files) (Ok is.world)
+loads_for ran loaded is files = record { asked = is.asked; words_ask = is.words_ask; answers = is.world_is }
 
--- what the schema says was put
+-- what the files say was put
 pub told_alone : (ran : Ran) (status : ℕ) (loaded : Loaded) (command : Command) (is : IsLoaded ran.files ran.words loaded) → loaded.command ≡ command →
     ran.library_now ≡ ran.library_before →
-    (let output = command_output is.parts (run_files ran.files []) is.asked.entries command in Ends output.bytes output.status ran.sink status) → Answers ran status
+    (let output = command_output is.world (run_files ran.files []) is.asked.entries command in Ends output.bytes output.status ran.sink status) → Answers ran status
 told_alone ran status loaded command is same kept ends =
     let files = run_files ran.files [] in
-    let outside = loaded_outside is.parts files in
+    let outside = outside_of ran loaded is files in
     let asks : is.asked.command ≡ command = sym (ap (λ (l : Loaded). l.command) is.value) ∙ same in
     done_with outside ran status _ (stood_loaded ran loaded is files (λ told e. files-told ran.files [] told e)) kept
-    (loads_output ran.words outside (Ok is.parts) (loads_for ran loaded is files) ∙ ap (command_output is.parts files is.asked.entries) asks) ends
+    (loads_output ran.words outside (Ok is.world) (loads_for ran loaded is files) ∙ ap (command_output is.world files is.asked.entries) asks) ends
 
 -- the counts of its definitions, and what a client is told of it
 pub told_count : (ran : Ran) (status : ℕ) (loaded : Loaded) (is : IsLoaded ran.files ran.words loaded) → loaded.command ≡ Check → ran.library_now ≡ ran.library_before →
     Ends (ok_line loaded.world.schema) 0 ran.sink status → Answers ran status
 told_count ran status loaded is same kept ends =
-    told_alone ran status loaded Check is same kept (subst (λ (p : Parts). Ends (ok_line p) 0 ran.sink status) (ap (λ (l : Loaded). l.world.schema) is.value) ends)
+    told_alone ran status loaded Check is same kept (subst (λ (w : World). Ends (ok_line w.schema) 0 ran.sink status) (ap (λ (l : Loaded). l.world) is.value) ends)
 
 pub told_array : (ran : Ran) (status : ℕ) (loaded : Loaded) (is : IsLoaded ran.files ran.words loaded) → loaded.command ≡ Introspect → ran.library_now ≡ ran.library_before →
-    Ends (printed loaded.world.introspection ++ codes "\n") 0 ran.sink status → Answers ran status
+    Ends (introspection_line loaded.world) 0 ran.sink status → Answers ran status
 told_array ran status loaded is same kept ends =
     told_alone ran status loaded Introspect is same kept
-    (subst (λ (j : Json). Ends (printed j ++ codes "\n") 0 ran.sink status) (ap (λ (l : Loaded). l.world.introspection) is.value) ends)
+    (subst (λ (w : World). Ends (introspection_line w) 0 ran.sink status) (ap (λ (l : Loaded). l.world) is.value) ends)
 
 -- the same run from before what did not fail
 pub kept_answers : (ran : Ran) (files : Option (List NamedText)) (after before : Failures) (status : ℕ) → ran.files ≡ files → ran.library_before ≡ after.count →
@@ -335,7 +368,7 @@ kept_answers ran files after before status same now kept answer =
 -- the script of the name is asked for
 pub may_read : (tells : Option (List NamedText)) (words : Option Words) (loaded : Loaded) (name : List ℕ) → loaded.command ≡ Replay name → IsLoaded tells words loaded → MayRead words name
 may_read tells words loaded name ordered is =
-    subst (λ (o : Option Words). MayRead o name) (sym is.words_ask) (inr (sym (ap (λ (l : Loaded). l.command) is.value) ∙ ordered))
+    inr (subst (λ (o : Option Words). NamesScript o name) (sym is.words_ask) (sym (ap (λ (l : Loaded). l.command) is.value) ∙ ordered))
 
 -- the library answered for the script
 pub answered : (ran : Ran) (status : ℕ) (world : World) (limits : Limits) (name : List ℕ) (answer : Option (List ℕ)) →
@@ -343,14 +376,14 @@ pub answered : (ran : Ran) (status : ℕ) (world : World) (limits : Limits) (nam
     ((told : List NamedText) → ran.files ≡ Some told → answer ≡ text_of name told) → ran.library_now ≡ ran.library_before →
     (let output = replay_output name (option_map (played_of world limits) answer) in Ends output.bytes output.status ran.sink status) → Answers ran status
 answered ran status world limits name answer is value kept ends =
-    let files = run_files ran.files (read_file name answer) in
-    let outside = loaded_outside is.parts files in
+    let files = run_files ran.files (named_files name answer) in
+    let outside = outside_of ran _ is files in
     let finds : Finds ran.words outside answer = record {
-      parts = is.parts;
+      world = is.world;
       loads = loads_for ran _ is files;
       name = name;
       replay = sym (ap (λ (l : Loaded). l.command) is.value);
-      found = script-answer ran.files name answer value;
+      found = named_text ran.files name answer value;
     } in
     let meant : output_over ran.words outside ≡ replay_output name (option_map (played_of world limits) answer) =
     finds_output ran.words outside answer finds

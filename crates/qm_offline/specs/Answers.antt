@@ -4,11 +4,11 @@ use Rattle.qm_base.specs.{Faults.Rose, Faults.told_more, Faults.HoldsPart, Prefi
 use Rattle.qapi_load.specs.Files.{NamedText}
 use Rattle.qm_core.specs.{Legal.IsLegal, Legal.past_of, Transcript.taken_of, Transcript.transcript_of}
 use Rattle.qm_script.specs.Plays.{Sinking, Putting}
-use Rattle.qm_offline.specs.{Causes.Accepts, Causes.Refuses, Causes.Misses, Causes.PlaysTo, Causes.Stops, Causes.MayRead}
-use Rattle.qm_offline.specs.{Output.Outside, Output.output_over, Output.journal_for, Output.schema_of, Output.world_of, Output.cannot_read, Words.Words}
+use Rattle.qm_offline.specs.{Causes.Accepts, Causes.Refuses, Causes.Unbound, Causes.Misbinds, Causes.Misses, Causes.PlaysTo, Causes.Stops, Causes.MayRead}
+use Rattle.qm_offline.specs.{Output.FileFault, Output.Outside, Output.output_over, Output.journal_for, Output.schema_of, Output.bind_text, Output.world_for, Output.cannot_read, Words.Words}
 use Rattle.qapi_types.specs.declared.parts.Parts.{Parts}
 use Rattle.qapi_check.specs.declared.loading.SchemaFault.{SchemaFault}
-use Rattle.qm_core.specs.declared.entries.Entry.{Entry}
+use Rattle.qm_core.specs.declared.{entries.Entry.Entry, world.World.World}
 
 -- what the words ask for, where they are in the grammar; and the library and the sink before and after
 -- the run: the files that the library tells, its count of faults, and the name of the latest file whose
@@ -46,10 +46,12 @@ pub record Gives (outside : Outside) (ran : Ran) (status : ℕ) : Type 0 where
   -- after want of memory or a fault of the sink a part was put
   pub wanting : status ≡ 1 → HoldsPart ran.sink.held (output_over ran.words outside).bytes ran.sink.holds
   pub sink_part : status ≡ 7 → HoldsPart ran.sink.held (output_over ran.words outside).bytes ran.sink.holds ⊎ PutsUnread ran
-  -- 0: the schema has no fault, and the script, where the words ask for one, is played to its end
+  -- 0: the files have no fault, and the script, where the words ask for one, is played to its end
   pub whole : Exactly 0 (Accepts ran.words outside ⊎ PlaysTo ran.words outside None) status
   -- 3: the schema is refused
   pub schema : Exactly 3 (Refuses ran.words outside) status
+  -- 4: the bind file is missing or refused
+  pub bind : Exactly 4 (Unbound ran.words outside ⊎ Misbinds ran.words outside) status
   -- 5: the script is missing, or its play stops at a bad line or a refused step
   pub script : Exactly 5 (Misses ran.words outside ⊎ Stops false ran.words outside) status
   -- 9: its play stops at a full journal or full sessions
@@ -60,25 +62,38 @@ abbrev pub Schema : Option Words → List NamedText → Result Parts SchemaFault
 Schema None files answer = Unit {0}
 Schema (Some w) files answer = answer ≡ schema_of w files
 
--- what stood outside during a run: the files of the schema, and those of which one is the script; where
--- the library tells its files, both are these
+-- the text of the bind file of the words, over files
+abbrev pub Bind : Option Words → List NamedText → Option (List ℕ) → Type 0
+Bind None files text = Unit {0}
+Bind (Some w) files text = text ≡ bind_text w.bind files
+
+-- what stood outside during a run: the files of the schema, those of which one is the bind file, and those of
+-- which one is the script; where the library tells its files, all three are these
 pub record Stood (ran : Ran) (outside : Outside) : Type 0 where
   pub files : List NamedText
   pub schema : Schema ran.words files outside.schema
   pub schema_told : (told : List NamedText) → ran.files ≡ Some told → files ≡ told
+  pub bind_files : List NamedText
+  pub bind : Bind ran.words bind_files outside.bind
+  pub bind_told : (told : List NamedText) → ran.files ≡ Some told → bind_files ≡ told
   pub script_told : (told : List NamedText) → ran.files ≡ Some told → outside.files ≡ told
 
--- the journal is legal over a schema; without one it is empty
-abbrev pub IsLegalOver : Result Parts SchemaFault → List Entry → Type 0
-IsLegalOver (Ok parts) journal = IsLegal (world_of parts) journal
+-- the journal is legal over a world; without one it is empty
+abbrev pub IsLegalOver : Result World FileFault → List Entry → Type 0
+IsLegalOver (Ok world) journal = IsLegal world journal
 IsLegalOver (Err fault) journal = journal ≡ []
+
+-- the journal is legal over the world of words; for other words it is empty
+abbrev pub IsLegalFor : Option Words → Outside → List Entry → Type 0
+IsLegalFor None outside journal = journal ≡ []
+IsLegalFor (Some w) outside journal = IsLegalOver (world_for w outside) journal
 
 pub record Answers (ran : Ran) (status : ℕ) : Type 0 where
   pub outside : Outside
   pub stood : Stood ran outside
   pub gives : Gives outside ran status
   -- the journal that was played is legal, and what each session was handed begins its transcript
-  pub legal : IsLegalOver outside.schema (journal_for ran.words outside)
+  pub legal : IsLegalFor ran.words outside (journal_for ran.words outside)
   pub begins : (s : ℕ) → (let past = past_of (journal_for ran.words outside) in IsPrefix (taken_of s past) (transcript_of s past))
   -- 2 exactly where the words are outside the grammar
   pub usage_only : status ≡ 2 → ran.words ≡ None

@@ -1,4 +1,5 @@
 pub mod Answers
+pub mod Binds
 pub mod Causes
 pub mod Loading
 pub mod Output

@@ -11,10 +11,11 @@ use Rattle.qm_core.specs.declared.{TheConstants.MOST_TEXT, entries.Entry.Entry, 
 use Rattle.qm_script.specs.{Playing.Ended, Playing.played_of, Playing.transcript_text_of, Endings.end_of, declared.endings.PlayEnd.PlayEnd}
 use Rattle.qm_script.specs.declared.endings.PlayEnd.TheVariants as end
 use Rattle.qapi_check.specs.{Checking.table_of, declared.loading.SchemaFault.SchemaFault}
+use Rattle.qm_bind.specs.{Bindings.bind_of, declared.binding.Binding.Binding, declared.fault.BindFault.BindFault}
 use Rattle.qm_offline.specs.declared.refusal.Refusal.{Refusal}
 use Rattle.qapi_check.specs.declared.loading.SchemaFault.TheVariants.{Load, Check as Broken}
 use Rattle.qm_offline.specs.declared.refusal.Refusal.TheVariants as refusal
-use Rattle.qm_offline.specs.{Rules.load_word, Rules.check_word, Rules.name_printed}
+use Rattle.qm_offline.specs.{Rules.load_word, Rules.check_word, Rules.name_printed, Binds.bind_line, Binds.missing_bind}
 use Rattle.qm_offline.specs.declared.loading.Command.{Command, TheVariants.Check, TheVariants.Introspect, TheVariants.Replay}
 use Rattle.qm_offline.specs.Words.{Words, names_defined}
 
@@ -52,11 +53,25 @@ abbrev pub fault_line : SchemaFault → List ℕ
 fault_line (Load fault) = load_line fault
 fault_line (Broken fault) = check_line fault
 
+-- why the files of a command line give no world: the schema's fault; or, where it has none, that there is no
+-- bind file of the name, or the fault of the one that there is
+pub data FileFault : Type 0 where
+  InSchema : SchemaFault → FileFault
+  NoBind : List ℕ → FileFault
+  InBind : List ℕ → BindFault → FileFault
+
+abbrev pub file_fault_output : FileFault → Output
+file_fault_output (InSchema fault) = record { status = 3; bytes = fault_line fault }
+file_fault_output (NoBind name) = record { status = 4; bytes = missing_bind name }
+file_fault_output (InBind name fault) = record { status = 4; bytes = bind_line name fault }
+
 -- what is put out for a command line that is not run; nothing, where memory was wanting
 abbrev pub refusal_output : Refusal → Output
 refusal_output refusal.Words = usage
 refusal_output (refusal.Schema fault) = record { status = 3; bytes = load_line fault }
 refusal_output (refusal.Check fault) = record { status = 3; bytes = check_line fault }
+refusal_output (refusal.NoBind name) = record { status = 4; bytes = missing_bind name }
+refusal_output (refusal.Bind name fault) = record { status = 4; bytes = bind_line name fault }
 refusal_output (refusal.Library name) = record { status = 6; bytes = cannot_read name }
 refusal_output refusal.Memory = record { status = 1; bytes = [] }
 
@@ -74,9 +89,9 @@ ok_line parts =
     codes "ok " ++ decimal (length parts.commands) ++ codes " commands, " ++ decimal (length parts.events) ++ codes " events, "
     ++ decimal (named_types parts.kinds) ++ codes " types\n"
 
--- the line of what a client is told of a schema
-abbrev pub introspection_line : Parts → List ℕ
-introspection_line parts = printed (introspection_of parts) ++ codes "\n"
+-- the line of what a client is told of a world's schema
+abbrev pub introspection_line : World → List ℕ
+introspection_line world = printed world.introspection ++ codes "\n"
 
 -- there is no such script
 abbrev pub missing : List ℕ → Output
@@ -98,55 +113,84 @@ replayed ended = record { status = end_status_of (end_of ended.refused); bytes =
 abbrev pub limits_of : ℕ → Limits
 limits_of entries = record { entries = entries; text = MOST_TEXT }
 
--- what a schema lets a monitor serve
-abbrev pub world_of : Parts → World
-world_of parts = record { schema = parts; introspection = introspection_of parts }
+-- what a schema and a binding let a monitor serve
+abbrev pub world_of : Parts → Binding → World
+world_of parts binding = record { schema = parts; introspection = introspection_of parts; binding = binding }
 
--- what is played of a script over a schema
-abbrev pub play_of : Parts → ℕ → List ℕ → Ended
-play_of parts entries script = played_of (world_of parts) (limits_of entries) script
+abbrev pub bound_over : Parts → List ℕ → Result Binding BindFault → Result World FileFault
+bound_over parts name (Ok binding) = Ok (world_of parts binding)
+bound_over parts name (Err fault) = Err (InBind name fault)
+
+-- the world of a schema and the text of the bind file of the name
+abbrev pub bind_over : Parts → List ℕ → Option (List ℕ) → Result World FileFault
+bind_over parts name None = Err (NoBind name)
+bind_over parts name (Some text) = bound_over parts name (bind_of parts text)
+
+-- the world of what loading and checking a schema answers, and of the text of a bind file
+abbrev pub world_over : List ℕ → Result Parts SchemaFault → Option (List ℕ) → Result World FileFault
+world_over name (Ok parts) text = bind_over parts name text
+world_over name (Err fault) text = Err (InSchema fault)
+
+-- what is played of a script over a world
+abbrev pub play_of : World → ℕ → List ℕ → Ended
+play_of world entries script = played_of world (limits_of entries) script
 
 abbrev pub replay_output : List ℕ → Option Ended → Output
 replay_output script None = missing script
 replay_output script (Some ended) = replayed ended
 
--- what stands outside: what loading and checking the schema answers, and the files of which one is the script
+-- what stands outside: what loading and checking the schema answers, the text of the bind file, where there is
+-- one, and the files of which one is the script
 pub record Outside : Type 0 where
   pub schema : Result Parts SchemaFault
+  pub bind : Option (List ℕ)
   pub files : List NamedText
 
--- what is played of a command's script; nothing, where it has none or there is none of that name
-abbrev pub play_from : Parts → List NamedText → ℕ → Command → Option Ended
-play_from parts files entries (Replay script) = option_map (play_of parts entries) (text_of script files)
-play_from parts files entries command = None
+-- the name of the bind file; without one it is empty
+abbrev pub bind_name : Words → List ℕ
+bind_name w = unwrap_or w.bind []
 
-abbrev pub play_over : Words → List NamedText → Result Parts SchemaFault → Option Ended
-play_over w files (Ok parts) = play_from parts files w.entries w.command
+-- the world of words, or the first fault of their files
+abbrev pub world_for : Words → Outside → Result World FileFault
+world_for w outside = world_over (bind_name w) outside.schema outside.bind
+
+-- what is played of a command's script; nothing, where it has none or there is none of that name
+abbrev pub play_from : World → List NamedText → ℕ → Command → Option Ended
+play_from world files entries (Replay script) = option_map (play_of world entries) (text_of script files)
+play_from world files entries command = None
+
+abbrev pub play_over : Words → List NamedText → Result World FileFault → Option Ended
+play_over w files (Ok world) = play_from world files w.entries w.command
 play_over w files (Err fault) = None
 
 -- what is played for words over what stands outside, if anything is
 abbrev pub play_for : Option Words → Outside → Option Ended
-play_for words outside = option_and_then (λ w. play_over w outside.files outside.schema) words
+play_for words outside = option_and_then (λ w. play_over w outside.files (world_for w outside)) words
 
 -- the journal of that play
 abbrev pub journal_for : Option Words → Outside → List Entry
 journal_for words outside = unwrap_or (option_map (λ ended. ended.played.journal) (play_for words outside)) []
 
-abbrev pub command_output : Parts → List NamedText → ℕ → Command → Output
-command_output parts files entries Check = record { status = 0; bytes = ok_line parts }
-command_output parts files entries Introspect = record { status = 0; bytes = introspection_line parts }
-command_output parts files entries (Replay script) = replay_output script (option_map (play_of parts entries) (text_of script files))
+abbrev pub command_output : World → List NamedText → ℕ → Command → Output
+command_output world files entries Check = record { status = 0; bytes = ok_line world.schema }
+command_output world files entries Introspect = record { status = 0; bytes = introspection_line world }
+command_output world files entries (Replay script) = replay_output script (option_map (play_of world entries) (text_of script files))
 
--- a schema that is refused ends the run, whatever the command
-abbrev pub schema_output : Words → List NamedText → Result Parts SchemaFault → Output
-schema_output w files (Ok parts) = command_output parts files w.entries w.command
-schema_output w files (Err fault) = record { status = 3; bytes = fault_line fault }
+-- a fault of a file ends the run, whatever the command
+abbrev pub world_output : Words → List NamedText → Result World FileFault → Output
+world_output w files (Ok world) = command_output world files w.entries w.command
+world_output w files (Err fault) = file_fault_output fault
 
 -- the status and the bytes for words over what stands outside
 abbrev pub output_over : Option Words → Outside → Output
 output_over None outside = usage
-output_over (Some w) outside = schema_output w outside.files outside.schema
+output_over (Some w) outside = world_output w outside.files (world_for w outside)
 
 -- what loading and checking the schema of a command line answers, over files
 abbrev pub schema_of : Words → List NamedText → Result Parts SchemaFault
 schema_of w files = table_of files w.schema (names_defined w.define)
+
+-- the text of the bind file of a name, over files; without a name it is the empty object
+abbrev pub bind_text : Option (List ℕ) → List NamedText → Option (List ℕ)
+bind_text None files = Some (codes "{}")
+bind_text (Some name) files = text_of name files

@@ -116,11 +116,12 @@ command_told word.Check = Check
 command_told word.Introspect = Introspect
 command_told (word.Replay script) = Replay script.now
 
--- what a command line asks for: a command, the schema's main file, the names that hold in its conditions, and
--- how many entries and open sessions a journal may have together
+-- what a command line asks for: a command, the schema's main file, the bind file, the names that hold in the
+-- schema's conditions, and how many entries and open sessions a journal may have together
 pub record Words : Type 0 where
   pub command : Command
   pub schema : Option (List ℕ)
+  pub bind : Option (List ℕ)
   pub define : Option (List ℕ)
   pub entries : ℕ
 
@@ -132,13 +133,12 @@ command_of verb given =
     else if bytes_eq verb (codes "replay") then option_map Replay given.positional
     else None
 
--- each option that a command has no use for is accepted; bind files are not read yet
+-- each option that a command has no use for is accepted
 abbrev pub words_given : List ℕ → Given → Option Words
 words_given verb given =
-    if is_some given.bind then None
-    else option_and_then (λ command.
+    option_and_then (λ command.
     option_and_then (λ workers.
-    option_map (λ entries. record { command = command; schema = given.schema; define = given.define; entries = entries })
+    option_map (λ entries. record { command = command; schema = given.schema; bind = given.bind; define = given.define; entries = entries })
     (number_or MOST_ENTRIES MOST_ENTRIES given.journal)) (number_or 4 32 given.workers)) (command_of verb given)
 
 -- what the words ask for; other words are outside the grammar

@@ -2,6 +2,7 @@
 //! put out for them.
 #![tactic(auto)]
 
+mod binds;
 mod defines;
 pub mod loading;
 pub mod offline;

@@ -4,6 +4,7 @@ ghost use Rattle.qm_offline.specs.Output.{missing as missing_of, cannot_read, re
 ghost use Rattle.qm_offline.specs.Loading.{IsLoaded};
 ghost use Rattle.qm_offline.specs.Words.{Words, words_of as words_of_words};
 ghost use Rattle.qm_offline.specs.declared.loading.Command.TheVariants.{Replay};
+ghost use Rattle.qm_core.specs.Worlds.{IsReady};
 ghost use Rattle.qm_core.specs.declared.TheConstants.{MOST_ENTRIES, MOST_TEXT};
 ghost use Rattle.qm_script.specs.Plays.{sunk};
 ghost use Rattle.qm_script.specs.Playing.{played_of};
@@ -49,6 +50,7 @@ fn play_script<S: Sink>(
     requires some { 1 ≤ limits.entries }
     requires few { limits.entries ≤ MOST_ENTRIES }
     requires short { limits.text ≤ MOST_TEXT }
+    requires ready { IsReady world }
     ensures { let output = replayed (played_of world limits script.now) in Ends output.bytes output.status (sunk S.contents S.faults sink.old sink.new) result }
 {
     status(play(alloc, world, limits, script, sink))
@@ -73,6 +75,7 @@ fn replay_script<L: Library, S: Sink>(
     requires some { 1 ≤ limits.entries }
     requires few { limits.entries ≤ MOST_ENTRIES }
     requires short { limits.text ≤ MOST_TEXT }
+    requires ready { IsReady world }
     ensures { (words : Option Words) → IsLoaded (L.files library.old) words (record { command = Replay name; world = world; limits = limits }) →
         Answers record {
           words = words;
@@ -96,6 +99,7 @@ fn run<L: Library, S: Sink>(alloc: Global, loaded: Loaded, library: &mut L, sink
     requires some { 1 ≤ loaded.limits.entries }
     requires few { loaded.limits.entries ≤ MOST_ENTRIES }
     requires short { loaded.limits.text ≤ MOST_TEXT }
+    requires ready { IsReady loaded.world }
     ensures { (words : Option Words) → IsLoaded (L.files library.old) words loaded →
         Answers record {
           words = words;
@@ -119,9 +123,10 @@ fn run<L: Library, S: Sink>(alloc: Global, loaded: Loaded, library: &mut L, sink
 }
 
 /// Runs a command line without threads, and answers its status: 0 where all went well; 1 where
-/// memory was wanting; 2 where the words are outside the grammar; 3 where the schema is refused; 5
-/// where the script is missing or a line of it is refused; 6 where the library failed; 7 where the
-/// sink failed; 9 where the journal or the sessions are full. It always returns.
+/// memory was wanting; 2 where the words are outside the grammar; 3 where the schema is refused; 4
+/// where the bind file is missing or refused; 5 where the script is missing or a line of it is
+/// refused; 6 where the library failed; 7 where the sink failed; 9 where the journal or the sessions
+/// are full. It always returns.
 pub fn run_offline<L: Library, S: Sink>(
     alloc: Global,
     words: &[String],

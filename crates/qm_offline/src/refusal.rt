@@ -2,14 +2,16 @@
 ghost use Rattle.std.specs.Prelude.{◌≡◌, ◌≢◌, ◌++◌, IfOk, List, ℕ};
 ghost use Rattle.qm_offline.specs.Answers.{Ends};
 ghost use Rattle.qm_offline.specs.Output.{usage, cannot_read as cannot_read_line, refusal_output};
-ghost use Rattle.qm_offline.specs.Refusals.{load_refusal as load_refusal_of, check_refusal as check_refusal_of, refusal_of as refusal_of_fault};
+ghost use Rattle.qm_offline.specs.Refusals.{load_refusal as load_refusal_of, check_refusal as check_refusal_of, bind_refusal as bind_refusal_of, refusal_of as refusal_of_fault};
 ghost use Rattle.qm_script.specs.Plays.{sunk};
 
+use crate::binds::{bind_line, missing_bind};
 use crate::rules::{check_line, load_line};
 use qapi_check::SchemaFault;
 use qapi_load::{LoadFault, LoadRule};
 use qapi_rules::{CheckFault, CheckRule};
 use qm_base::{NoMemory, Text};
+use qm_bind::{BindFault, BindRule};
 use qm_link::{Sink, SinkFailed};
 use std::alloc::Global;
 
@@ -26,6 +28,10 @@ pub enum Refusal {
     Schema(LoadFault),
     /// A definition of the schema breaks a rule. The rule is not that of memory.
     Check(CheckFault),
+    /// There is no bind file of this name.
+    NoBind(Text),
+    /// The bind file of this name has this fault. The rule is not that of memory.
+    Bind(Text, BindFault),
     /// The file of this name could not be read.
     Library(Text),
     /// No memory was left.
@@ -66,6 +72,17 @@ pub fn refusal_of(fault: SchemaFault) -> Refusal
     }
 }
 
+/// The refusal for the fault of a bind file of the name.
+#[tactic(auto, using(crate::proofs::RefusalLemmas::bind_refused))]
+pub fn bind_refusal(name: Text, fault: BindFault) -> Refusal
+    ensures { result ≡ bind_refusal_of fault.rule name fault }
+{
+    match fault.rule {
+        BindRule::Memory => Refusal::Memory,
+        _ => Refusal::Bind(name, fault),
+    }
+}
+
 fn cannot_read(alloc: Global, name: &[u8]) -> Result<Text, NoMemory>
     ensures { IfOk result (λ line. line ≡ cannot_read_line name.now) }
 {
@@ -103,7 +120,7 @@ pub fn put_text<S: Sink>(line: Result<Text, NoMemory>, wanted: u8, sink: &mut S)
 }
 
 /// Puts the line of a refusal, and answers its status: 2 for words outside the grammar, 3 for a
-/// schema's fault, 6 for a file that could not be read; 7 exactly where the sink's count rose, and
+/// schema's fault, 4 for a bind file's, 6 for a file that could not be read; 7 exactly where the sink's count rose, and
 /// then a part of the line was put; and 1 where memory is wanting, and then nothing was put.
 pub fn report<S: Sink>(alloc: Global, refusal: &Refusal, sink: &mut S) -> u8
     ensures ends { Ends (refusal_output refusal.now).bytes (refusal_output refusal.now).status (sunk S.contents S.faults sink.old sink.new) result }
@@ -113,6 +130,8 @@ pub fn report<S: Sink>(alloc: Global, refusal: &Refusal, sink: &mut S) -> u8
         Refusal::Words => put(USAGE, 2, sink),
         Refusal::Schema(fault) => put_text(load_line(alloc, fault), 3, sink),
         Refusal::Check(fault) => put_text(check_line(alloc, fault), 3, sink),
+        Refusal::NoBind(name) => put_text(missing_bind(alloc, name.as_slice()), 4, sink),
+        Refusal::Bind(name, fault) => put_text(bind_line(alloc, name.as_slice(), fault), 4, sink),
         Refusal::Library(name) => put_text(cannot_read(alloc, name.as_slice()), 6, sink),
         Refusal::Memory => 1,
     }

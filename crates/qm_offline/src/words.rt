@@ -250,12 +250,14 @@ pub enum CommandWord<'a> {
     Replay(&'a [u8]),
 }
 
-/// What a command line asks for: a command, the main file of a schema, the names that hold in its
-/// conditions, and how many entries and open sessions a journal may have together, 1 to 1,000,000.
+/// What a command line asks for: a command, the main file of a schema, a bind file, the names that
+/// hold in the schema's conditions, and how many entries and open sessions a journal may have
+/// together, 1 to 1,000,000.
 #[derive(Drop)]
 pub struct Words<'a> {
     command: CommandWord<'a>,
     schema: Option<&'a [u8]>,
+    bind: Option<&'a [u8]>,
     define: Option<&'a [u8]>,
     entries: u64,
 }
@@ -271,6 +273,7 @@ impl<'a> Model for Words<'a> {
     ghost view = { λ w. record {
       command = command_told w.command;
       schema = option_copied w.schema;
+      bind = option_copied w.bind;
       define = option_copied w.define;
       entries = w.entries;
     } };
@@ -291,6 +294,13 @@ impl<'a> Words<'a> {
         ensures { option_copied result ≡ self.now.schema }
     {
         self.schema
+    }
+
+    /// The name of the bind file.
+    pub fn bind(&self) -> Option<&'a [u8]>
+        ensures { option_copied result ≡ self.now.bind }
+    {
+        self.bind
     }
 
     /// The names that hold in the schema's conditions, with commas between them.
@@ -328,15 +338,13 @@ fn command_given<'a>(verb: &[u8], given: &Given<'a>) -> Option<CommandWord<'a>>
 fn words_given<'a>(verb: &[u8], given: Given<'a>) -> Option<Words<'a>>
     ensures { result ≡ words_given_of verb.now given.entry }
 {
-    if given.bind.is_some() {
-        return None;
-    }
     let command = command_given(verb, &given)?;
     number_or(4, MOST_WORKERS, given.workers)?;
     let entries = number_or(MOST_ENTRIES, MOST_ENTRIES, given.journal)?;
     Some(Words {
         command,
         schema: given.schema,
+        bind: given.bind,
         define: given.define,
         entries,
     })

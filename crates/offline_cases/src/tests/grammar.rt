@@ -28,8 +28,10 @@ replay --jour 4 a.script
 replay --workers=33 a.script
 replay a.script a.script
 replay -- a.script --journal=4
-replay --bind b.json a.script
+replay --bind b.json --bind b.json a.script
+replay --bind '' a.script
 check a.script
+check --bind
 check --schema
 check --schema s.json --schema=s.json
 introspect a.script
