@@ -15,7 +15,7 @@ pub enum PathStep {
 }
 
 impl Default for PathStep {
-    ghost use Rattle.qm_admit.specs.declared.path.PathStep.{Place};
+    ghost use Rattle.qm_admit.specs.declared.path.PathStep.TheVariants.{Place};
 
     fn default() -> PathStep
         ensures { result ≡ Place 0 }

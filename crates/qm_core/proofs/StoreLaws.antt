@@ -1,27 +1,38 @@
 -- A reply changes the store exactly where it is no error.
-use Rattle.std.proofs.Common.{◌≡◌, ℕ, Bool, true, false, List, [], ◌∷◌, codes, Option, Some, None, Result, Ok, Err, refl}
-use Rattle.qm_json.specs.{Members.member_of, declared.value.Json.Json, declared.value.Json.TheVariants.Obj, declared.value.Member.Member}
+use Rattle.std.proofs.Common.{◌≡◌, ℕ, Bool, true, false, List, [], ◌∷◌, codes, Option, Some, None, Result, Ok, Err, refl, ap, ◌∙◌}
+use Rattle.qm_json.specs.declared.value.Json.TheViews.{outs-Obj}
+use Rattle.qm_json.specs.{Members.has_name, Members.layer_members, Members.member_of, Members.members_of, declared.value.Json.Json, declared.value.Json.TheVariants.Obj, declared.value.Member.Member}
 use Rattle.std.specs.Bool.{if◌then◌else◌}
 use Rattle.qm_plan.specs.{Applying.Outcome, Applying.applied_of, Stores.Contents, declared.applied.ApplyFault.ApplyFault}
 use Rattle.qm_core.specs.{Effects.Effect, Effects.effect_of, Effects.facts_of, Planned.plan_for, Planned.planned_by, Planned.planned_for, Replies.effect_member, Replies.id_of, Replies.id_members, Replies.is_return, Replies.outcome_of, Replies.reply_to, State.stored, State.effect_store, State.verdict_store, State.left_by, Verdicts.verdict_of}
 use Rattle.qm_core.specs.declared.{inputs.Input.Input, inputs.Input.TheVariants.Doc, inputs.Input.TheVariants.Bad, requests.Request.Request, world.World.World}
 use Rattle.qm_core.specs.declared.verdicts.Verdict.{Verdict, TheVariants.Refused, TheVariants.Run}
 
--- the store by a plan's outcome and an effect, told by its reply
-told_by_effect : (store : Contents) (applied : Result Outcome ApplyFault) (effect : Effect) (ids : List Member) → is_return (Obj ids) ≡ false →
-    (if is_return (Obj (effect_member effect ∷ ids)) then left_by store applied else store) ≡ effect_store store applied effect
-told_by_effect store applied (Ok value) ids none = refl
-told_by_effect store applied (Err text) ids none = rw none refl
+-- the members of an object are these
+members_back : (members : List Member) → members_of (Obj members) ≡ members
+members_back members = ap layer_members (outs-Obj members)
 
-id_is_no_return : (id : Option Json) → is_return (Obj (id_members id)) ≡ false
+return_first : (value : Json) (ids : List Member) → is_return (Obj (effect_member (Ok value) ∷ ids)) ≡ true
+return_first value ids = ap (λ (l : List Member). has_name l (codes "return")) (members_back (effect_member (Ok value) ∷ ids))
+
+error_first : (text : List ℕ) (ids : List Member) → has_name ids (codes "return") ≡ false → is_return (Obj (effect_member (Err text) ∷ ids)) ≡ false
+error_first text ids none = ap (λ (l : List Member). has_name l (codes "return")) (members_back (effect_member (Err text) ∷ ids)) ∙ none
+
+-- the store by a plan's outcome and an effect, told by its reply
+told_by_effect : (store : Contents) (applied : Result Outcome ApplyFault) (effect : Effect) (ids : List Member) → has_name ids (codes "return") ≡ false →
+    (if is_return (Obj (effect_member effect ∷ ids)) then left_by store applied else store) ≡ effect_store store applied effect
+told_by_effect store applied (Ok value) ids none = rw (return_first value ids) refl
+told_by_effect store applied (Err text) ids none = rw (error_first text ids none) refl
+
+id_is_no_return : (id : Option Json) → has_name (id_members id) (codes "return") ≡ false
 id_is_no_return None = refl
 id_is_no_return (Some value) = refl
 
-ids_are_no_return : (input : Input) → is_return (Obj (id_of input)) ≡ false
+ids_are_no_return : (input : Input) → has_name (id_of input) (codes "return") ≡ false
 ids_are_no_return (Doc value) = id_is_no_return (member_of value (codes "id"))
 ids_are_no_return (Bad bad) = refl
 
-told_by_verdict : (world : World) (store : Contents) (request : Request) (verdict : Verdict) (ids : List Member) → is_return (Obj ids) ≡ false →
+told_by_verdict : (world : World) (store : Contents) (request : Request) (verdict : Verdict) (ids : List Member) → has_name ids (codes "return") ≡ false →
     stored world store (planned_by world request verdict) (Obj (outcome_of world store request verdict ∷ ids)) ≡ verdict_store world store request verdict
 told_by_verdict world store request (Refused refusal) ids none = refl
 told_by_verdict world store request (Run command) ids none =

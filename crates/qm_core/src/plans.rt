@@ -3,7 +3,7 @@
 ghost use Rattle.std.specs.Prelude.{◌≡◌, ◌<◌, [], length, IfOk};
 ghost use Rattle.std.specs.Option.{option_copied};
 ghost use Rattle.qm_plan.specs.Plans.{arguments_of, plan_of};
-ghost use Rattle.qm_core.specs.Planned.{plain_recipe, planned_by, planned_for, recipe_at};
+ghost use Rattle.qm_core.specs.Planned.{plain_recipe, plan_for, planned_by, planned_for, recipe_at};
 
 use crate::arguments::arguments_in;
 use crate::judging::verdict;
@@ -41,6 +41,19 @@ fn command_plan(
     }
 }
 
+/// The plan of a command that a request calls.
+fn call_plan(
+    alloc: Global,
+    world: &World,
+    request: &Request,
+    command: u32,
+) -> Result<Plan, NoMemory>
+    ensures { IfOk result (λ plan. plan ≡ plan_for world.now request.now command) }
+{
+    let arguments = arguments_in(&request.input);
+    command_plan(alloc, world, command, arguments)
+}
+
 fn planned_by(
     alloc: Global,
     world: &World,
@@ -51,8 +64,8 @@ fn planned_by(
 {
     match verdict {
         Verdict::Run(command) => {
-            let arguments = arguments_in(&request.input);
-            Ok(Some(command_plan(alloc, world, *command, arguments)?))
+            let plan = call_plan(alloc, world, request, *command)?;
+            Ok(Some(plan))
         }
         Verdict::Refused(_) => Ok(None),
     }

@@ -154,7 +154,7 @@ pub(crate) struct Reply {
     pub(crate) changes: StoreChangeList,
 }
 
-fn message(
+fn judged_message(
     alloc: Global,
     setting: &Setting,
     store: &Store,
@@ -189,7 +189,7 @@ pub(crate) fn replied(
     ensures changes { IfOk result (λ reply. committed reply.changes store.now
         ≡ stored setting.now store.now plan.now (reply_to setting.now store.now request.now)) }
 {
-    let Message { members, changes } = message(alloc, setting, store, request, plan)?;
+    let Message { members, changes } = judged_message(alloc, setting, store, request, plan)?;
     let value = with_id(alloc, members, &request.input)?;
     Ok(Reply { value, changes })
 }
