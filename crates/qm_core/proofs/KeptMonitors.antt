@@ -1,17 +1,19 @@
 -- What the fields of a monitor keep, after one more entry.
-use Rattle.std.proofs.Common.{◌≡◌, ℕ, ◌+◌, ◌^◌, ◌<◌, ◌≤◌, max, Bool, true, false, ◌&&◌, Option, Some, None, List, [], ◌∷◌, ◌++◌, length, refl, ap, sym, arith}
+use Rattle.std.proofs.Common.{◌≡◌, ℕ, ◌+◌, ◌^◌, ◌<◌, ◌≤◌, max, Bool, true, false, ◌&&◌, Option, Some, None, is_some, List, [], ◌∷◌, ◌++◌, length, refl, ap, sym, ◌∙◌, arith}
+use Rattle.std.specs.Bool.{if◌then◌else◌}
 use Rattle.std.proofs.lemmas.List.{length-append}
 use Rattle.qm_base.specs.Reserving.{Reserved}
 use Rattle.qm_json.specs.{Printing.printed, declared.value.Json.Json}
 use Rattle.qm_caps.specs.{Greetings.greeting_value, Modes.bound_of, declared.mode.Lane.TheVariants.InBand}
-use Rattle.qm_core.specs.declared.{TheConstants.DROP_BYTES, entries.Cause.Cause, entries.Entry.Entry}
+use Rattle.qm_core.specs.declared.{TheConstants.DROP_BYTES, entries.Cause.Cause, entries.Entry.Entry, entries.StepFault.StepFault, entries.StepFault.TheVariants.NotRunning}
 use Rattle.qm_core.specs.declared.entries.Entry.TheVariants.{Open, Admit, Done, Drop}
 use Rattle.qm_core.specs.declared.{inputs.Input.Input, monitor.Monitor.TheInside.Inside as Fields, requests.Request.Request}
 use Rattle.qm_core.specs.{declared.requests.RequestName.RequestName, declared.sessions.Session.Session, Inputs.IsCleanInput}
 use Rattle.qm_core.specs.Kept.{IsPlaced, IsSession, IsFirstOpen, IsRunning, IsSound, answered, sent, view_of}
 use Rattle.qm_plan.specs.{Stores.Contents, declared.recipes.Plan.Plan}
 use Rattle.qm_core.specs.{Planned.planned_of, State.store_of, State.stored}
-use Rattle.qm_core.specs.{Answers.IsAnswer, Legal.past_of, Order.MayFollow, Replies.reply_to, Replies.is_return}
+use Rattle.qm_core.specs.Next.{Finish, Next, View, entry_of, full_refusal, is_running}
+use Rattle.qm_core.specs.{Answers.IsAnswer, Answers.reply_of, Legal.past_of, Order.MayFollow, Replies.reply_to, Replies.is_return}
 use Rattle.qm_core.specs.Standing.{sessions_of, is_ended, open_count_of, admitted_of, in_flight_of, mode_of, running_of, negotiates, last_moment_of}
 use Rattle.qm_core.specs.Texts.{entry_text_of}
 use Rattle.qm_core.proofs.{Journals.legal-append, Journals.past_of-append, KeptSessions.kept-admit, KeptSessions.kept-done, KeptSessions.kept-open, KeptSessions.none_waits, Texts.text_more}
@@ -88,6 +90,47 @@ sound-done m journal s k bytes request plan reply line moment last commands sess
       below = small;
     }
     record { planned = planned; answer = rw (runs, ← sound.store) refl } (rw (answer, one) at placed) (rw (answer, one) at added) (kept-done past m.session k plan (reply_to m.world m.store request) last commands sound.legal.ordered sound.session opens) record { request = refl; of_first = tt } again (rw (← sound.store) held))
+
+not_run : (runs : Bool) (full fault : Option StepFault) → fault ≡ (if runs then None else Some NotRunning) → is_some fault ≡ true →
+    fault ≡ (if runs then full else Some NotRunning)
+not_run true full fault told some = absurd cc
+not_run false full fault told some = told
+
+run : (runs : Bool) (full : Option StepFault) → None ≡ (if runs then None else Some NotRunning) → None ≡ full → None ≡ (if runs then full else Some NotRunning)
+run true full told room = room
+run false full told room = absurd cc
+
+-- a request that does not run is not answered
+pub next-refused : (m : View) (s k moment : ℕ) (fault : Option StepFault) → fault ≡ (if is_running s k (past_of m.journal) then None else Some NotRunning) →
+    is_some fault ≡ true → Next m (Finish s k moment) fault m
+next-refused m s k moment (Some fault) told some =
+    let past = past_of m.journal in
+    record {
+      answer = not_run (is_running s k past) (full_refusal m.limits past (entry_of m.world past (Finish s k moment))) (Some fault) told some;
+      journal = refl;
+      limits = refl;
+      world = refl;
+    }
+next-refused m s k moment None told some = absurd cc
+
+-- and one that does is
+pub next-done : (m : Fields) (journal : Reserved Entry) (s k : ℕ) (request : Request) (plan : Option Plan) (reply : Json) (moment last : ℕ) → IsSound m →
+    None ≡ (if is_running s k (past_of m.journal.items) then None else Some NotRunning) → running_of (past_of m.journal.items) ≡ Some request →
+    plan ≡ planned_of m.world (running_of (past_of m.journal.items)) → reply ≡ reply_to m.world m.store request → last ≡ max moment m.last_moment →
+    None ≡ full_refusal m.limits (past_of m.journal.items) (Done s k plan reply last) →
+    journal ≡ record m.journal { items = m.journal.items ++ Done s k plan reply last ∷ [] } →
+    Next (view_of m) (Finish s k moment) None record { world = m.world; limits = m.limits; journal = journal.items }
+next-done m journal s k request plan reply moment last sound told runs planned answer greatest room added =
+    let past = past_of m.journal.items in
+    let reply_is : reply ≡ reply_of m.world (store_of m.world past) (running_of past) = rw (runs, ← sound.store) answer in
+    let last_is : last ≡ max moment (last_moment_of past) = rw (← sound.moment) greatest in
+    let same : Done s k plan reply last ≡ entry_of m.world past (Finish s k moment) = rw (planned, reply_is, last_is) refl in
+    record {
+      answer = run (is_running s k past) (full_refusal m.limits past (entry_of m.world past (Finish s k moment))) told (room ∙ ap (full_refusal m.limits past) same);
+      journal = ap (λ (r : Reserved Entry). r.items) added ∙ ap (λ (e : Entry). m.journal.items ++ e ∷ []) same;
+      limits = refl;
+      world = refl;
+    }
 
 pub sound-open : (m : Fields) (journal : Reserved Entry) (bytes : ℕ) (line : List ℕ) → IsSound m → sessions_of (past_of m.journal.items) ≡ [] →
     line ≡ printed greeting_value → IsPlaced (view_of m) (Open 1) bytes →

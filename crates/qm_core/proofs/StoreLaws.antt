@@ -1,5 +1,5 @@
 -- A reply changes the store exactly where it is no error.
-use Rattle.std.proofs.Common.{◌≡◌, ℕ, Bool, true, false, List, [], ◌∷◌, codes, Option, Some, None, Result, Ok, Err, refl, ap, ◌∙◌}
+use Rattle.std.proofs.Common.{◌≡◌, ℕ, true, false, List, ◌∷◌, codes, Option, Some, None, Result, Ok, Err, refl, ap, ◌∙◌}
 use Rattle.qm_json.specs.declared.value.Json.TheViews.{outs-Obj}
 use Rattle.qm_json.specs.{Members.has_name, Members.layer_members, Members.member_of, Members.members_of, declared.value.Json.Json, declared.value.Json.TheVariants.Obj, declared.value.Member.Member}
 use Rattle.std.specs.Bool.{if◌then◌else◌}

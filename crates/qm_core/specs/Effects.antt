@@ -1,5 +1,5 @@
 -- What comes of a command that takes effect (this project's own rule).
-use Rattle.std.specs.Prelude.{ℕ, Bool, true, false, if◌then◌else◌, List, [], ◌∷◌, ◌++◌, codes, map, Option, Some, None, slice_get, Result, Ok, Err}
+use Rattle.std.specs.Prelude.{ℕ, Bool, true, false, if◌then◌else◌, List, [], ◌∷◌, ◌++◌, codes, map, Option, Some, slice_get, Result, Ok, Err}
 use Rattle.std.specs.Option.{option_map_or}
 use Rattle.qm_base.specs.Names.{is_named}
 use Rattle.qm_json.specs.declared.value.Json.{Json, TheVariants.Obj, TheVariants.Arr, TheVariants.Str}

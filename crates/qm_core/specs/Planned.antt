@@ -1,5 +1,5 @@
 -- The plan of a request (this project's own rule).
-use Rattle.std.specs.Prelude.{ℕ, List, [], Option, Some, None, slice_get, unwrap_or}
+use Rattle.std.specs.Prelude.{ℕ, [], Option, Some, None, slice_get, unwrap_or}
 use Rattle.qm_plan.specs.{Plans.plan_of, Plans.arguments_of, Plans.no_members, declared.templates.Template.TheVariants.Const}
 use Rattle.qm_plan.specs.declared.recipes.{Plan.Plan, Recipe.Recipe, Waiting.TheVariants.No}
 use Rattle.qm_core.specs.{Inputs.arguments_in, Verdicts.verdict_of, declared.requests.Request.Request, declared.world.World.World}

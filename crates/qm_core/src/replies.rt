@@ -120,7 +120,9 @@ fn outcome(
     let _ = request;
     match (verdict, plan) {
         (Verdict::Refused(refusal), _) => refused_outcome(alloc, refusal),
-        (Verdict::Run(command), Some(plan)) => command_outcome(alloc, setting, store, *command, plan),
+        (Verdict::Run(command), Some(plan)) => command_outcome(
+            alloc, setting, store, *command, plan,
+        ),
         (Verdict::Run(_), None) => unreachable!(),
     }
 }
