@@ -5,6 +5,7 @@ ghost use Rattle.qm_core.specs.Next as step;
 ghost use Rattle.qm_core.specs.Standing.{admitted_of, named_of, running_of, was_opened};
 ghost use Rattle.qm_core.specs.declared.TheConstants.{MOST_ENTRIES, MOST_TEXT};
 ghost use Rattle.qm_core.specs.Inputs.{IsCleanInput};
+ghost use Rattle.qm_core.specs.Worlds.{IsReady};
 ghost use Rattle.qm_script.specs.Fed.{fed_inputs_of};
 ghost use Rattle.qm_script.specs.Endings.{stop_of as stop_of_fault};
 ghost use Rattle.qm_script.specs.Orders.{hex_bytes_of};
@@ -97,6 +98,7 @@ impl Player {
         requires some { 1 ≤ limits.entries }
         requires few { limits.entries ≤ MOST_ENTRIES }
         requires short { limits.text ≤ MOST_TEXT }
+        requires ready { IsReady world }
         ensures { IfOk result (λ player. player
             ≡ record { world = world; limits = limits; played = nothing_played }) }
     {
@@ -238,9 +240,10 @@ impl Player {
         let Some(request) = self.monitor.running() else {
             return Ok(self.refused(Stop::Step(StepWord::NotRunning)));
         };
+        let plan = self.monitor.planned(alloc)?;
         match self
             .monitor
-            .finish(alloc, request.session, request.number, moment)
+            .finish(alloc, request.session, request.number, plan, moment)
         {
             Ok(()) => Ok(self.stepped()),
             Err(fault) => Ok(self.refused(told(fault)?)),
