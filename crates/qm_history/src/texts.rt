@@ -177,6 +177,7 @@ fn put_body(out: &mut Text, entry: &Entry) -> Result<(), NoMemory>
         Entry::Done {
             session,
             number,
+            plan: _,
             reply,
             moment,
         } => { put_done(out, *session, *number, reply, *moment) }

@@ -1,8 +1,10 @@
 pub mod FedLemmas
 pub mod LegalPlays
 pub mod LineLemmas
+pub mod LineSteps
 pub mod OrderLemmas
 pub mod PlayLemmas
 pub mod PutLemmas
+pub mod SessionLemmas
 pub mod StepLemmas
 pub mod TurnLemmas

@@ -1,21 +1,22 @@
-ghost use Rattle.std.specs.Prelude.{◌≡◌, ◌≢◌, ◌≤◌, ◌++◌, IfOk, OnOk, IfSome, Some, None, slice_get, true};
+ghost use Rattle.std.specs.Prelude.{◌≡◌, ◌≢◌, ◌≤◌, ◌++◌, [], IfOk, OnOk, IfSome, Some, None, option_map, is_none, if◌then◌else◌};
 ghost use Rattle.qm_core.specs.Legal.{past_of};
-ghost use Rattle.qm_core.specs.Next.{Start, Take, End, Drop, session_refusal};
+ghost use Rattle.qm_core.specs.Next.{Start, Take, End, Drop, Finish};
 ghost use Rattle.qm_core.specs.Next as step;
-ghost use Rattle.qm_core.specs.Standing.{admitted_of, named_of, running_of, was_opened};
+ghost use Rattle.qm_core.specs.Standing.{sessions_of};
 ghost use Rattle.qm_core.specs.declared.TheConstants.{MOST_ENTRIES, MOST_TEXT};
 ghost use Rattle.qm_core.specs.Inputs.{IsCleanInput};
-ghost use Rattle.qm_script.specs.Fed.{fed_inputs_of};
+ghost use Rattle.qm_core.specs.Worlds.{IsReady};
 ghost use Rattle.qm_script.specs.Endings.{stop_of as stop_of_fault};
 ghost use Rattle.qm_script.specs.Orders.{hex_bytes_of};
-ghost use Rattle.qm_script.specs.Playing.{nothing_played, core_step, open_step, fed_step, admit_step, fed_to, finish_step, ordered, line_step};
+ghost use Rattle.qm_script.specs.Kept.{playing, IsFedBy, StepTurns, OpenTurns, FedTurns, AdmitTurns, FinishTurns, OrderTurns, LineTurns, closed_stop, next_input_of};
+ghost use Rattle.qm_script.specs.Playing.{nothing_played};
 
 use crate::endings::{StepWord, Stop};
 use crate::feeder::Feeder;
 use crate::hex::hex_bytes;
 use crate::orders::{Order, fed_by, is_skipped, order_of_line};
 use qm_base::NoMemory;
-use qm_core::{Cause, EntryList, Input, Limits, Monitor, Offer, StepFault, World};
+use qm_core::{Cause, EntryList, Input, Limits, Monitor, Offer, RequestName, StepFault, World};
 use std::alloc::Global;
 use std::marker::Model;
 
@@ -89,14 +90,71 @@ fn told(fault: StepFault) -> Result<Stop, NoMemory>
     }
 }
 
-impl Player {
-    ghost use Rattle.qm_script.specs.Kept.{Turns};
+/// The stop for the fault of a step, where there is one.
+fn stop_for(fault: Option<StepFault>) -> Option<Stop>
+    ensures { result ≡ option_map stop_of_fault fault }
+{
+    match fault {
+        Some(fault) => Some(stop_of(fault)),
+        None => None,
+    }
+}
 
+/// The same, where want of memory is none.
+fn stop_told(fault: Option<StepFault>) -> Result<Option<Stop>, NoMemory>
+    ensures stop { IfOk result (λ stop. stop ≡ option_map stop_of_fault fault) }
+    ensures known { OnOk result (fault ≢ Some StepFault.Memory) }
+{
+    match fault {
+        Some(fault) => Ok(Some(told(fault)?)),
+        None => Ok(None),
+    }
+}
+
+/// The bytes of a session that an `open` opened, if it did.
+fn first_fed(feeder: Feeder, stop: Option<Stop>) -> Option<Feeder>
+    ensures { result ≡ (if is_none stop then Some feeder else None) }
+{
+    if stop.is_none() { Some(feeder) } else { None }
+}
+
+/// Feeds more bytes, where a session was opened.
+fn fed_more(
+    alloc: Global,
+    feeder: Option<Feeder>,
+    bytes: &[u8],
+    ending: &[u8],
+) -> Result<Option<Feeder>, NoMemory>
+    ensures { IfOk result (λ more. more ≡ option_map (λ fed. fed ++ (bytes.now ++ ending.now)) feeder) }
+{
+    match feeder {
+        Some(feeder) => {
+            let feeder = feeder.fed(alloc, bytes)?;
+            Ok(Some(feeder.fed(alloc, ending)?))
+        }
+        None => Ok(None),
+    }
+}
+
+/// The turn that ends with this monitor, these bytes and this stop.
+fn turned(monitor: Monitor, feeder: Option<Feeder>, stop: Option<Stop>) -> Turn
+    requires { IsFedBy monitor.journal feeder }
+    ensures player { result.player ≡ playing monitor feeder }
+    ensures stop { result.stop ≡ stop }
+{
+    Turn {
+        player: Player { monitor, feeder },
+        stop,
+    }
+}
+
+impl Player {
     /// A player in a world that has played nothing.
     pub fn new(alloc: Global, world: World, limits: Limits) -> Result<Player, NoMemory>
         requires some { 1 ≤ limits.entries }
         requires few { limits.entries ≤ MOST_ENTRIES }
         requires short { limits.text ≤ MOST_TEXT }
+        requires ready { IsReady world }
         ensures { IfOk result (λ player. player
             ≡ record { world = world; limits = limits; played = nothing_played }) }
     {
@@ -115,7 +173,8 @@ impl Player {
     }
 
     fn refused(self, stop: Stop) -> Turn
-        ensures { result ≡ record { player = self; stop = Some stop } }
+        ensures player { result.player ≡ self }
+        ensures stop { result.stop ≡ Some stop }
     {
         Turn {
             player: self,
@@ -124,7 +183,8 @@ impl Player {
     }
 
     fn stepped(self) -> Turn
-        ensures { result ≡ record { player = self; stop = None } }
+        ensures player { result.player ≡ self }
+        ensures stop { result.stop ≡ None }
     {
         Turn {
             player: self,
@@ -132,20 +192,55 @@ impl Player {
         }
     }
 
-    fn open(mut self, alloc: Global) -> Result<Turn, NoMemory>
-        ensures { IfOk result (Turns self (open_step self.world self.limits self.played)) }
+    fn open_first(self, alloc: Global) -> Result<Turn, NoMemory>
+        requires { sessions_of (past_of self.played.journal) ≡ [] }
+        ensures { IfOk result (OpenTurns self) }
+    {
+        let Player {
+            mut monitor,
+            feeder: _,
+        } = self;
+        let feeder = Feeder::new(alloc)?;
+        let stop = stop_told(monitor.open(alloc).err())?;
+        Ok(turned(monitor, first_fed(feeder, stop), stop))
+    }
+
+    fn open(self, alloc: Global) -> Result<Turn, NoMemory>
+        ensures { IfOk result (OpenTurns self) }
     {
         if self.feeder.is_some() {
             return Ok(self.refused(Stop::BadLine));
         }
-        let feeder = Feeder::new(alloc)?;
-        match self.monitor.open(alloc) {
-            Ok(_) => {
-                self.feeder = Some(feeder);
-                Ok(self.stepped())
-            }
-            Err(fault) => Ok(self.refused(told(fault)?)),
+        self.open_first(alloc)
+    }
+
+    /// Why a session takes nothing, where it was never opened or is closed.
+    fn closed(&self, session: u32) -> Option<Stop>
+        ensures { result ≡ closed_stop self.now session }
+    {
+        if !self.monitor.is_known(session) {
+            return Some(Stop::Step(StepWord::NoSession));
         }
+        if self.monitor.is_closed(session) {
+            return Some(Stop::Step(StepWord::Closed));
+        }
+        None
+    }
+
+    fn feed_open(
+        self,
+        alloc: Global,
+        session: u32,
+        bytes: &[u8],
+        ending: &[u8],
+    ) -> Result<Turn, NoMemory>
+        requires { closed_stop self session ≡ None }
+        ensures { IfOk result (FedTurns self session (bytes.now ++ ending.now)) }
+    {
+        let _session = session;
+        let Player { monitor, feeder } = self;
+        let feeder = fed_more(alloc, feeder, bytes, ending)?;
+        Ok(turned(monitor, feeder, None))
     }
 
     fn feed(
@@ -155,38 +250,24 @@ impl Player {
         bytes: &[u8],
         ending: &[u8],
     ) -> Result<Turn, NoMemory>
-        ensures { IfOk result (Turns self (fed_step self.played session (bytes.now ++ ending.now)
-            (session_refusal session (past_of self.played.journal) None))) }
+        ensures { IfOk result (FedTurns self session (bytes.now ++ ending.now)) }
     {
-        if !self.monitor.is_known(session) {
-            return Ok(self.refused(Stop::Step(StepWord::NoSession)));
+        match self.closed(session) {
+            Some(stop) => Ok(self.refused(stop)),
+            None => self.feed_open(alloc, session, bytes, ending),
         }
-        if self.monitor.is_closed(session) {
-            return Ok(self.refused(Stop::Step(StepWord::Closed)));
-        }
-        let Player { monitor, feeder } = self;
-        let Some(feeder) = feeder else { unreachable!() };
-        let feeder = feeder.fed(alloc, bytes)?;
-        let feeder = feeder.fed(alloc, ending)?;
-        let player = Player {
-            monitor,
-            feeder: Some(feeder),
-        };
-        Ok(player.stepped())
     }
 
     fn feed_hex(self, alloc: Global, session: u32, text: &[u8]) -> Result<Turn, NoMemory>
-        ensures { IfOk result (Turns self (fed_step self.played session (hex_bytes_of text.now)
-            (session_refusal session (past_of self.played.journal) None))) }
+        ensures { IfOk result (FedTurns self session (hex_bytes_of text.now)) }
     {
         let bytes = hex_bytes(alloc, text)?;
         self.feed(alloc, session, bytes.as_slice(), b"")
     }
 
     fn next_input(&self, session: u32) -> Result<Option<Input>, NoMemory>
-        requires { was_opened session (past_of self.now.played.journal) ≡ true }
-        ensures value { IfOk result (λ input. input ≡ slice_get (fed_inputs_of (fed_to session self.now.played.fed))
-            (admitted_of session (past_of self.now.played.journal))) }
+        requires { closed_stop self.now session ≡ None }
+        ensures value { IfOk result (λ input. input ≡ next_input_of self.now session) }
         ensures clean { IfOk result (λ input. IfSome input IsCleanInput) }
     {
         match &self.feeder {
@@ -195,87 +276,113 @@ impl Player {
         }
     }
 
-    fn admit_input(mut self, alloc: Global, session: u32, input: Input) -> Result<Turn, NoMemory>
+    fn admit_input(self, alloc: Global, session: u32, input: Input) -> Result<Turn, NoMemory>
         requires { IsCleanInput input }
-        ensures { IfOk result (Turns self (core_step self.world self.limits self.played (step.Admit session input))) }
+        ensures { IfOk result (StepTurns self (step.Admit session input)) }
     {
+        let Player {
+            mut monitor,
+            feeder,
+        } = self;
         let mut offer = Offer::of(alloc, input)?;
-        match self.monitor.admit(session, &mut offer) {
-            Ok(_) => Ok(self.stepped()),
-            Err(fault) => Ok(self.refused(stop_of(fault))),
-        }
+        let stop = stop_for(monitor.admit(session, &mut offer).err());
+        Ok(turned(monitor, feeder, stop))
     }
 
-    fn admit(self, alloc: Global, session: u32) -> Result<Turn, NoMemory>
-        ensures { IfOk result (Turns self (admit_step self.world self.limits self.played session
-            (session_refusal session (past_of self.played.journal) None))) }
+    fn admit_open(self, alloc: Global, session: u32) -> Result<Turn, NoMemory>
+        requires { closed_stop self session ≡ None }
+        ensures { IfOk result (AdmitTurns self session) }
     {
-        if !self.monitor.is_known(session) {
-            return Ok(self.refused(Stop::Step(StepWord::NoSession)));
-        }
-        if self.monitor.is_closed(session) {
-            return Ok(self.refused(Stop::Step(StepWord::Closed)));
-        }
         match self.next_input(session)? {
             Some(input) => self.admit_input(alloc, session, input),
             None => Ok(self.refused(Stop::Step(StepWord::NoFrame))),
         }
     }
 
-    fn start(mut self) -> Turn
-        ensures { Turns self (core_step self.world self.limits self.played Start) result }
+    fn admit(self, alloc: Global, session: u32) -> Result<Turn, NoMemory>
+        ensures { IfOk result (AdmitTurns self session) }
     {
-        match self.monitor.start() {
-            Ok(_) => self.stepped(),
-            Err(fault) => self.refused(stop_of(fault)),
+        match self.closed(session) {
+            Some(stop) => Ok(self.refused(stop)),
+            None => self.admit_open(alloc, session),
         }
     }
 
-    fn finish(mut self, alloc: Global, moment: u64) -> Result<Turn, NoMemory>
-        ensures { IfOk result (Turns self (finish_step self.world self.limits self.played moment
-            (named_of (running_of (past_of self.played.journal))))) }
+    fn start(self) -> Turn
+        ensures { StepTurns self Start result }
     {
-        let Some(request) = self.monitor.running() else {
-            return Ok(self.refused(Stop::Step(StepWord::NotRunning)));
-        };
-        match self
-            .monitor
-            .finish(alloc, request.session, request.number, moment)
-        {
-            Ok(()) => Ok(self.stepped()),
-            Err(fault) => Ok(self.refused(told(fault)?)),
+        let Player {
+            mut monitor,
+            feeder,
+        } = self;
+        let stop = stop_for(monitor.start().err());
+        turned(monitor, feeder, stop)
+    }
+
+    fn finish_request(
+        self,
+        alloc: Global,
+        session: u32,
+        number: u64,
+        moment: u64,
+    ) -> Result<Turn, NoMemory>
+        ensures { IfOk result (StepTurns self (Finish session number moment)) }
+    {
+        let Player {
+            mut monitor,
+            feeder,
+        } = self;
+        let plan = monitor.planned(alloc)?;
+        let stop = stop_told(monitor.finish(alloc, session, number, plan, moment).err())?;
+        Ok(turned(monitor, feeder, stop))
+    }
+
+    fn finish(self, alloc: Global, moment: u64) -> Result<Turn, NoMemory>
+        ensures { IfOk result (FinishTurns self moment) }
+    {
+        match self.monitor.running() {
+            Some(RequestName { session, number }) => {
+                self.finish_request(alloc, session, number, moment)
+            }
+            None => Ok(self.refused(Stop::Step(StepWord::NotRunning))),
         }
     }
 
-    fn take(mut self, session: u32) -> Turn
-        ensures { Turns self (core_step self.world self.limits self.played (Take session)) result }
+    fn take(self, session: u32) -> Turn
+        ensures { StepTurns self (Take session) result }
     {
-        match self.monitor.take(session) {
-            Ok(_) => self.stepped(),
-            Err(fault) => self.refused(stop_of(fault)),
-        }
+        let Player {
+            mut monitor,
+            feeder,
+        } = self;
+        let stop = stop_for(monitor.take(session).err());
+        turned(monitor, feeder, stop)
     }
 
-    fn end(mut self, session: u32) -> Turn
-        ensures { Turns self (core_step self.world self.limits self.played (End session)) result }
+    fn end(self, session: u32) -> Turn
+        ensures { StepTurns self (End session) result }
     {
-        match self.monitor.end(session) {
-            Ok(()) => self.stepped(),
-            Err(fault) => self.refused(stop_of(fault)),
-        }
+        let Player {
+            mut monitor,
+            feeder,
+        } = self;
+        let stop = stop_for(monitor.end(session).err());
+        turned(monitor, feeder, stop)
     }
 
-    fn drop_session(mut self, session: u32, cause: Cause) -> Turn
-        ensures { Turns self (core_step self.world self.limits self.played (Drop session cause)) result }
+    fn drop_session(self, session: u32, cause: Cause) -> Turn
+        ensures { StepTurns self (Drop session cause) result }
     {
-        match self.monitor.drop_session(session, cause) {
-            Ok(()) => self.stepped(),
-            Err(fault) => self.refused(stop_of(fault)),
-        }
+        let Player {
+            mut monitor,
+            feeder,
+        } = self;
+        let stop = stop_for(monitor.drop_session(session, cause).err());
+        turned(monitor, feeder, stop)
     }
 
     fn ordered(self, alloc: Global, order: Order, line: &[u8]) -> Result<Turn, NoMemory>
-        ensures { IfOk result (Turns self (ordered self.world self.limits self.played line.now (Some order))) }
+        ensures { IfOk result (OrderTurns self line.now order) }
     {
         match order {
             Order::Open => self.open(alloc),
@@ -292,7 +399,7 @@ impl Player {
 
     /// Plays a line.
     pub fn line(self, alloc: Global, line: &[u8]) -> Result<Turn, NoMemory>
-        ensures { IfOk result (Turns self (line_step self.world self.limits self.played line.now)) }
+        ensures { IfOk result (LineTurns self line.now) }
     {
         if is_skipped(line) {
             return Ok(self.stepped());

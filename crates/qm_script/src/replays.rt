@@ -1,6 +1,7 @@
 ghost use Rattle.std.specs.Prelude.{◌≡◌, ◌≢◌, ◌≤◌, ◌++◌, ◌-◌, ◌^◌, min, IfOk, Err, length};
 ghost use Rattle.qm_base.specs.Faults.{Puts, Rose};
 ghost use Rattle.qm_core.specs.Texts.{text_of};
+ghost use Rattle.qm_core.specs.Worlds.{IsReady};
 ghost use Rattle.qm_script.specs.Endings.{closing_of};
 ghost use Rattle.qm_core.specs.declared.TheConstants.{MOST_ENTRIES, MOST_TEXT};
 ghost use Rattle.qm_script.specs.Lines.{lines_of};
@@ -107,6 +108,7 @@ fn replayed(
     requires some { 1 ≤ limits.entries }
     requires few { limits.entries ≤ MOST_ENTRIES }
     requires short { limits.text ≤ MOST_TEXT }
+    requires ready { IsReady world }
     ensures { IfOk result (Finishes (played_of world limits script.now)) }
 {
     let player = Player::new(alloc, world, limits)?;
@@ -125,6 +127,7 @@ pub fn play<S: Sink>(
     requires some { 1 ≤ limits.entries }
     requires few { limits.entries ≤ MOST_ENTRIES }
     requires short { limits.text ≤ MOST_TEXT }
+    requires ready { IsReady world }
     ensures { Plays (played_of world limits script.now) (sunk S.contents S.faults sink.old sink.new) result }
 {
     match replayed(alloc, world, limits, script) {

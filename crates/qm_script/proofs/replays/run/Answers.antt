@@ -1,5 +1,5 @@
-use Rattle.std.proofs.Common.{◌+◌, arith}
-use Rattle.qm_script.proofs.TurnLemmas.{stop_finishes, line_goes_on}
+use Rattle.std.proofs.Common.{◌+◌, ◌≤◌, length, arith, refl}
+use Rattle.qm_script.proofs.TurnLemmas.{stop_finishes, line_goes_on, all_finishes}
 use Rattle.qm_script.proofs.replays.run.Goals as goal
 
 pub returns-in-Some : goal.returns-in-Some
@@ -14,3 +14,11 @@ loop-rest-preserved c = (
       c.in_ok-next.field-0 _ c.first_line.ensures.lines c.loop-rest.invariant.0 c.in_ok-next.ensures c.in_default.is,
   omega (arith, c.loop-rest.invariant.1, c.first_line.ensures.shorter),
 )
+
+pub loop-rest-init : goal.loop-rest-init
+loop-rest-init c = (refl, omega arith)
+
+pub returns : goal.returns
+returns c =
+    let none : length c.loop-rest.rest.now ≤ 0 = omega arith in
+    all_finishes (c.loop-rest.number + 1) c.loop-rest.player c.loop-rest.rest.now _ none c.loop-rest.invariant.0

@@ -1,12 +1,16 @@
-use Rattle.std.proofs.Common.{rules, refl, subst}
-use Rattle.std.specs.Option.{option_to_list}
+use Rattle.std.proofs.Common.{◌≡◌, ap, ◌∙◌}
+use Rattle.std.proofs.lemmas.Result.{IfOk-weaker}
 use Rattle.qm_core.specs.{Legal.past_of, Standing.named_of, Standing.running_of}
-use Rattle.qm_script.specs.{Kept.Turns, Players.Playing, Playing.finish_step}
-use Rattle.qm_script.proofs.StepLemmas.{finish_refused, unlike-memory}
+use Rattle.qm_script.specs.Players.{Playing}
+use Rattle.qm_script.proofs.LineSteps.{finish_none, finish_some}
 use Rattle.qm_script.proofs.player.Player.finish.Goals as goal
 
-pub returns-in_ok-told-in-Err : goal.returns-in_ok-told-in-Err
-returns-in_ok-told-in-Err c =
-    subst (λ (p : Playing). Turns p (finish_step p.world p.limits p.played c.args.moment (named_of (running_of (past_of p.played.journal)))) c.refused-in-Err.result) c.self.view_is
-    (finish_refused c.self.inside.monitor c.finish.new.self (option_to_list c.self.inside.feeder) (named_of (running_of (past_of c.self.inside.monitor.journal))) c.in-Some.request c.args.moment c.in-Err.fault c.refused-in-Err.result
-    (search rules) (c.in-Err.ensures.next (unlike-memory c.in-Err.fault _ refl c.in_ok-told-in-Err.ensures.known)) (search rules) (search rules))
+pub returns-in-Some : goal.returns-in-Some
+returns-in-Some c =
+    let known : c.running.result ≡ named_of (running_of (past_of c.args.self.played.journal)) = c.running.ensures ∙ ap (λ (p : Playing). named_of (running_of (past_of p.played.journal))) c.self.view_is in
+    IfOk-weaker c.finish_request.result _ _ (λ turn. finish_some c.args.self c.args.moment c.running.result _ turn known c.in-Some.is) c.finish_request.ensures
+
+pub returns-in-None : goal.returns-in-None
+returns-in-None c =
+    let known : c.running.result ≡ named_of (running_of (past_of c.args.self.played.journal)) = c.running.ensures ∙ ap (λ (p : Playing). named_of (running_of (past_of p.played.journal))) c.self.view_is in
+    finish_none c.args.self c.args.moment c.running.result c.refused.result known c.in-None.is c.refused.ensures.player c.refused.ensures.stop

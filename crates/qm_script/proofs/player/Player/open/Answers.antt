@@ -1,11 +1,11 @@
-use Rattle.std.proofs.Common.{rules, refl, subst}
-use Rattle.std.specs.Option.{option_to_list}
-use Rattle.qm_script.specs.{Kept.Turns, Players.Playing, Playing.open_step}
-use Rattle.qm_script.proofs.StepLemmas.{open_refused, unlike-memory}
+use Rattle.std.proofs.Common.{◌≡◌, [], sym, ◌∙◌, subst}
+use Rattle.qm_core.specs.{Legal.past_of, Standing.sessions_of}
+use Rattle.qm_script.specs.Players.{Playing}
+use Rattle.qm_script.proofs.StepLemmas.{open_again, none_opened}
 use Rattle.qm_script.proofs.player.Player.open.Goals as goal
 
-pub returns-in_ok-told-in-Err : goal.returns-in_ok-told-in-Err
-returns-in_ok-told-in-Err c =
-    subst (λ (p : Playing). Turns p (open_step p.world p.limits p.played) c.refused-in-Err.result) c.self.view_is
-    (open_refused c.self.inside.monitor c.open.new.self (option_to_list c.self.inside.feeder) c.in-Err.fault c.refused-in-Err.result
-    (search rules) (c.in-Err.ensures.next (unlike-memory c.in-Err.fault _ refl c.in_ok-told-in-Err.ensures.known)) (search rules) (search rules))
+pub returns-then-is_some : goal.returns-then-is_some
+returns-then-is_some c = open_again c.args.self c.self.inside.monitor c.self.inside.feeder c.refused.result c.self.view_is c.self.invariant (sym c.is_some.ensures ∙ c.if-is_some.true) c.refused.ensures.player c.refused.ensures.stop
+
+pub open_first-requires : goal.open_first-requires
+open_first-requires c = subst (λ (p : Playing). sessions_of (past_of p.played.journal) ≡ []) c.self.view_is (none_opened c.self.inside.monitor c.self.inside.feeder c.self.invariant (sym c.is_some.ensures ∙ c.if-is_some.false))

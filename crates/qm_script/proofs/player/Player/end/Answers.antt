@@ -1,0 +1,11 @@
+use Rattle.qm_core.specs.Next.{End}
+use Rattle.qm_script.proofs.StepLemmas.{step_turns, still_fed, told_of}
+use Rattle.qm_script.proofs.player.Player.end.Goals as goal
+
+pub turned-requires : goal.turned-requires
+turned-requires c = still_fed c.self.inside.monitor c.end.new.self c.self.inside.feeder (End c.args.session) _ c.self.invariant tt c.end.ensures
+
+pub returns : goal.returns
+returns c =
+    step_turns c.args.self c.self.inside.monitor c.end.new.self c.self.inside.feeder (End c.args.session) _ c.stop_for-stop.result c.turned.result c.self.view_is c.end.ensures
+    (told_of c.err.result _ _ c.err.ensures.value c.stop_for-stop.ensures) c.turned.ensures.player c.turned.ensures.stop
