@@ -92,3 +92,7 @@ parts-of v file h = by_case (is_file_object v) h
 -- no two recipes of a clean value are for one command
 pub commands-distinct : (v : Json) (file : FileParts) → IsClean v → parts_of v ≡ Some file → are_distinct (member_names file.commands) ≡ true
 commands-distinct v file h e = given-distinct (member_of v (codes "commands")) file.commands (λ u q. member-clean v (codes "commands") u h q) (parts-of v file e).of_commands
+
+-- no two cells of a clean value have one name
+pub cells-distinct : (v : Json) (file : FileParts) → IsClean v → parts_of v ≡ Some file → are_distinct (member_names file.cells) ≡ true
+cells-distinct v file h e = given-distinct (member_of v (codes "cells")) file.cells (λ u q. member-clean v (codes "cells") u h q) (parts-of v file e).of_cells

@@ -1,4 +1,5 @@
 pub mod ArgumentLaws
+pub mod BoundLaws
 pub mod CleanParts
 pub mod Eaches
 pub mod Layers

@@ -1,5 +1,6 @@
-ghost use Rattle.std.specs.Prelude.{◌≡◌, ◌≢◌, [], ◌∷◌, ◌++◌, OnOk, Ok, Err, None, true, IfOk, IfErr, map, option_map, option_and_then};
+ghost use Rattle.std.specs.Prelude.{◌≡◌, ◌≢◌, [], ◌∷◌, ◌++◌, OnOk, Ok, Err, None, true, IfOk, IfErr, IsTrue, map, option_map, option_and_then};
 ghost use Rattle.qm_json.specs.Cleanness.{IsClean, are_distinct};
+ghost use Rattle.qm_plan.specs.Stores.{names_of as cell_names};
 ghost use Rattle.qm_bind.specs.Bindings.{bind_of, binding_of, bound_of, first_cell, no_memory, recipes_for, unless, unthrottled};
 ghost use Rattle.qm_bind.specs.Faults.{commands_fault, events_fault, fault as fault_by, file_fault, later_fault, member_names};
 ghost use Rattle.qm_bind.specs.Parts.{names_of};
@@ -248,7 +249,9 @@ fn text_fault(alloc: Global, fault: JsonFault) -> BindFault
 /// or one that is none for its command (`BadRecipe`), and anything that is said of an event
 /// (`BadPeriod`). `Memory` comes only where a growth was refused.
 pub fn bind(alloc: Global, schema: &Schema, text: &[u8]) -> Result<Binding, BindFault>
-    ensures { result ≢ Err no_memory → result ≡ bind_of schema.now text.now }
+    ensures value { result ≢ Err no_memory → result ≡ bind_of schema.now text.now }
+    ensures cells { IfOk result (λ binding. IsTrue (are_distinct (cell_names binding.cells))) }
+    ensures tallies { IfOk result (λ binding. IsTrue (are_distinct binding.tallies)) }
 {
     match read(alloc, text) {
         Ok(value) => bind_value(alloc, schema, &value),

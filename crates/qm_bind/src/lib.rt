@@ -20,4 +20,4 @@ mod values;
 pub use binding::{Binding, RecipeList};
 pub use checking::bind;
 pub use fault::{BindFault, BindRule};
-pub use laws::each_argument_is_a_member;
+pub use laws::{each_argument_is_a_member, each_binding_has_distinct_names, memory_is_no_fault};

@@ -4,4 +4,5 @@
 mod texts;
 mod writing;
 
+pub use texts::put_json_word;
 pub use writing::{HistoryFault, write_history};

@@ -23,7 +23,9 @@ fn put_place(out: &mut Text, word: &[u8], place: u64) -> Result<(), NoMemory>
     put_number(out, place)
 }
 
-fn put_json_word(out: &mut Text, word: JsonWord) -> Result<(), NoMemory>
+/// Puts why a text is no JSON: a word, and the place of the fault in bytes, from 0 on. An error says
+/// that memory was wanting.
+pub fn put_json_word(out: &mut Text, word: JsonWord) -> Result<(), NoMemory>
     ensures { OnOk result (out.new ≡ out.old ++ json_word_of word) }
 {
     match word {
