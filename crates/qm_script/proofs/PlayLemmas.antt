@@ -1,9 +1,9 @@
 -- A play whose whole transcript was put.
-use Rattle.std.proofs.Common.{◌≡◌, ◌≢◌, ℕ, List, [], Option, Some, None, refl, ap, sym, ◌∙◌, append-nil}
+use Rattle.std.proofs.Common.{◌≡◌, ◌≢◌, ℕ, List, Option, Some, None, refl, sym, ◌∙◌}
 use Rattle.qm_base.specs.Faults.{told_more, HoldsPart, Rose}
-use Rattle.qm_base.proofs.Prefixes.{refl_prefix, empty_prefix}
+use Rattle.qm_base.proofs.Prefixes.{refl_prefix}
 use Rattle.qm_script.specs.{Endings.end_of, Endings.stop_end_of, Playing.Ended, Playing.transcript_text_of, Plays.Plays, Plays.Sinking}
-use Rattle.qm_script.specs.declared.endings.{PlayEnd.PlayEnd, PlayEnd.TheVariants.SinkFault, PlayEnd.TheVariants.Memory, Refused.Refused, Stop.Stop, Stop.TheVariants.BadLine, Stop.TheVariants.Step, Stop.TheVariants.SessionsFull, Stop.TheVariants.JournalFull}
+use Rattle.qm_script.specs.declared.endings.{PlayEnd.PlayEnd, PlayEnd.TheVariants.SinkFault, Refused.Refused, Stop.Stop, Stop.TheVariants.BadLine, Stop.TheVariants.Step, Stop.TheVariants.SessionsFull, Stop.TheVariants.JournalFull}
 
 stop_is_no_fault : (line : ℕ) (stop : Stop) → stop_end_of line stop ≢ SinkFault
 stop_is_no_fault line BadLine = λ e. cc
@@ -39,22 +39,3 @@ plays_fault ended sinking part rose = record {
   failed = λ _. rose;
   kept = λ other. absurd (other refl);
 }
-
--- a play that want of memory ended
-pub plays_memory : (ended : Ended) (sinking : Sinking) → HoldsPart sinking.held (transcript_text_of ended) sinking.holds → sinking.now ≡ sinking.before → Plays ended sinking Memory
-plays_memory ended sinking part kept = record {
-  is_wanted = λ _ other. absurd (other refl);
-  whole = λ _ other. absurd (other refl);
-  part_at_fault = λ _. part;
-  part_at_memory = λ _. part;
-  failed = λ e. absurd cc;
-  kept = λ _. kept;
-}
-
-told_nothing : (held : Option (List ℕ)) → held ≡ told_more held []
-told_nothing None = refl
-told_nothing (Some bytes) = ap (λ (l : List ℕ). Some l) (sym (append-nil bytes))
-
--- before anything was put
-pub plays_nothing : (ended : Ended) (held : Option (List ℕ)) (faults : ℕ) → Plays ended record { held = held; holds = held; before = faults; now = faults } Memory
-plays_nothing ended held faults = plays_memory ended _ record { part = []; within = empty_prefix (transcript_text_of ended); told = told_nothing held } refl

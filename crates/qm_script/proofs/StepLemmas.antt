@@ -1,12 +1,12 @@
 -- A step that the monitor answers is a turn of the player.
-use Rattle.std.proofs.Common.{◌≡◌, ◌≢◌, ◌+◌, ℕ, ◌==◌, Bool, true, false, cond, List, [], ◌∷◌, ◌++◌, length, option_map, is_none, is_some, Option, Some, None, Result, Err, refl, ap, sym, ◌∙◌, subst}
+use Rattle.std.proofs.Common.{◌≡◌, ◌≢◌, ◌+◌, ℕ, ◌==◌, Bool, true, false, cond, List, [], ◌∷◌, ◌++◌, length, option_map, is_none, is_some, Option, Some, None, IfSome, IsSome, Result, Err, refl, ap, sym, ◌∙◌, subst}
 use Rattle.std.specs.Bool.{if◌then◌else◌}
 use Rattle.std.specs.Option.{option_to_list}
 use Rattle.std.specs.Result.{result_err}
 use Rattle.qm_core.specs.{Legal.past_of, Next.Next, Next.View, Next.continued, Next.entry_of, Next.refusal_of, Next.start_entry, Standing.sessions_of, Standing.named_of, Standing.starting_of}
 use Rattle.qm_core.specs.Next as step
 use Rattle.qm_core.specs.declared.entries.Entry.TheVariants as entry
-use Rattle.qm_core.specs.declared.{entries.Entry.Entry, entries.StepFault.StepFault, entries.StepFault.TheVariants.Memory, requests.RequestName.RequestName, world.World.World}
+use Rattle.qm_core.specs.declared.{entries.Entry.Entry, entries.StepFault.StepFault, entries.StepFault.TheVariants.Memory, inputs.Input.Input, requests.RequestName.RequestName, world.World.World}
 use Rattle.qm_core.proofs.Journals.{past_of-append}
 use Rattle.qm_script.specs.{Endings.stop_of, Kept.playing, Kept.IsFedBy, Kept.Turns, Kept.StepTurns, Kept.OpenTurns, Players.Playing}
 use Rattle.qm_script.specs.Playing.{Played, core_step, open_step, stepped}
@@ -74,6 +74,18 @@ still_fed old new feeder step fault fed none next = record {
   sessions = continues fault old.journal new.journal (entry_of old.world (past_of old.journal) step) next.journal (opens_none old.world (past_of old.journal) step none) ∙ fed.sessions;
 }
 
+-- the same of an input that is offered
+pub offer_fed : (old new : View) (feeder : Option (List ℕ)) (s : ℕ) (offer : Option Input) (fault : Option StepFault) → IsFedBy old.journal feeder → IsSome offer →
+    IfSome offer (λ input. Next old (step.Admit s input) fault new) → IsFedBy new.journal feeder
+offer_fed old new feeder s None fault fed some next = absurd cc
+offer_fed old new feeder s (Some input) fault fed some next = still_fed old new feeder (step.Admit s input) fault fed tt next
+
+pub offer_turns : (self : Playing) (old new : View) (feeder : Option (List ℕ)) (s : ℕ) (offer : Option Input) (fault : Option StepFault) (stop : Option Stop) (turn : Turn) → playing old feeder ≡ self →
+    IfSome offer (λ input. Next old (step.Admit s input) fault new) → stop ≡ option_map stop_of fault → turn.player ≡ playing new feeder → turn.stop ≡ stop →
+    IfSome offer (λ input. StepTurns self (step.Admit s input) turn)
+offer_turns self old new feeder s None fault stop turn seen next told player stopped = tt
+offer_turns self old new feeder s (Some input) fault stop turn seen next told player stopped = step_turns self old new feeder (step.Admit s input) fault stop turn seen next told player stopped
+
 -- the bytes of the session after its `open`
 abbrev pub opened : Option Stop → Option (List ℕ)
 opened stop = if is_none stop then Some [] else None
@@ -89,19 +101,11 @@ opened_by (Some fault) journal new none is = ap (λ (j : List Entry). sessions_o
 pub told_of : (found fault : Option StepFault) (stop : Option Stop) → found ≡ fault → stop ≡ option_map stop_of found → stop ≡ option_map stop_of fault
 told_of found fault stop is told = told ∙ ap (λ (f : Option StepFault). option_map stop_of f) is
 
-first_is : (fed : List ℕ) (given : Option (List ℕ)) (stop : Option Stop) (fault : Option StepFault) → fed ≡ [] → given ≡ (if is_none stop then Some fed else None) →
-    stop ≡ option_map stop_of fault → given ≡ opened (option_map stop_of fault)
-first_is fed given stop fault nothing is told = is ∙ ap (λ (f : List ℕ). if is_none stop then Some f else None) nothing ∙ ap (λ (s : Option Stop). opened s) told
-
 -- an `open` gives the session its bytes
-pub open_fed : (old new : View) (fault : Option StepFault) (stop : Option Stop) (fed : List ℕ) (given : Option (List ℕ)) → sessions_of (past_of old.journal) ≡ [] → Next old step.Open fault new →
-    stop ≡ option_map stop_of fault → fed ≡ [] → given ≡ (if is_none stop then Some fed else None) → IsFedBy new.journal given
-open_fed old new fault stop fed given none next told nothing is =
-    subst (λ (f : Option (List ℕ)). IsFedBy new.journal f) (sym (first_is fed given stop fault nothing is told)) record { sessions = opened_by fault old.journal new.journal none next.journal }
-
-unfed : (sessions : List ℕ) (feeder : Option (List ℕ)) → sessions ≡ [] → sessions ≡ cond (is_some feeder) (1 ∷ []) [] → feeder ≡ None
-unfed sessions None none is = refl
-unfed sessions (Some fed) none is = absurd (let e : [] ≡ 1 ∷ [] = sym none ∙ is in cc)
+pub open_fed : (old new : View) (fault : Option StepFault) (stop : Option Stop) (given : Option (List ℕ)) → sessions_of (past_of old.journal) ≡ [] → Next old step.Open fault new →
+    stop ≡ option_map stop_of fault → given ≡ (if is_none stop then Some [] else None) → IsFedBy new.journal given
+open_fed old new fault stop given none next told is =
+    subst (λ (f : Option (List ℕ)). IsFedBy new.journal f) (sym (is ∙ ap (λ (s : Option Stop). opened s) told)) record { sessions = opened_by fault old.journal new.journal none next.journal }
 
 fits_opened : (fault : Option StepFault) → Fits fault None (opened (option_map stop_of fault)) ([] ∷ [])
 fits_opened None = refl
@@ -116,34 +120,30 @@ where_later old true step turn is player stop = absurd cc
 where_later old false step turn is player stop = (stop, player)
 
 -- the first `open`
-pub open_turns : (self : Playing) (old new : View) (feeder : Option (List ℕ)) (fault : Option StepFault) (stop : Option Stop) (first : List ℕ) (given : Option (List ℕ)) (turn : Turn) → playing old feeder ≡ self →
-    sessions_of (past_of old.journal) ≡ [] → IsFedBy old.journal feeder → Next old step.Open fault new → stop ≡ option_map stop_of fault →
-    first ≡ [] → given ≡ (if is_none stop then Some first else None) → turn.player ≡ playing new given → turn.stop ≡ stop → OpenTurns self turn
+pub open_turns : (old new : View) (fault : Option StepFault) (stop : Option Stop) (given : Option (List ℕ)) (turn : Turn) → sessions_of (past_of old.journal) ≡ [] →
+    Next old step.Open fault new → stop ≡ option_map stop_of fault → given ≡ (if is_none stop then Some [] else None) →
+    turn.player ≡ playing new given → turn.stop ≡ stop → OpenTurns (playing old None) turn
 unfolding OpenTurns
-open_turns self old new feeder fault stop first given turn seen none fed next told nothing is player stopped =
-    let missing : feeder ≡ None = unfed (sessions_of (past_of old.journal)) feeder none fed.sessions in
+open_turns old new fault stop given turn none next told is player stopped =
     let empty : (length (sessions_of (past_of old.journal)) == 0) ≡ true = rw none refl in
-    let at : turn.player ≡ playing new (opened (option_map stop_of fault)) = player ∙ ap (λ (f : Option (List ℕ)). playing new f) (first_is first given stop fault nothing is told) in
-    let turns : Turns (playing old None) (open_step old.world old.limits record { journal = old.journal; fed = [] }) turn =
+    let at : turn.player ≡ playing new (opened (option_map stop_of fault)) = player ∙ ap (λ (f : Option (List ℕ)). playing new f) (is ∙ ap (λ (s : Option Stop). opened s) told) in
     where_first (playing old None) (length (sessions_of (past_of old.journal)) == 0) (core_step old.world old.limits record { journal = old.journal; fed = [] ∷ [] } step.Open) turn empty
-    (answered old new None (opened (option_map stop_of fault)) ([] ∷ []) step.Open fault turn next (fits_opened fault) at (stopped ∙ told)) in
-    subst (λ (p : Playing). Turns p (open_step p.world p.limits p.played) turn) (ap (λ (f : Option (List ℕ)). playing old f) (sym missing) ∙ seen) turns
+    (answered old new None (opened (option_map stop_of fault)) ([] ∷ []) step.Open fault turn next (fits_opened fault) at (stopped ∙ told))
 
 -- a later one is refused
-pub open_again : (self : Playing) (old : View) (feeder : Option (List ℕ)) (turn : Turn) → playing old feeder ≡ self → IsFedBy old.journal feeder → is_some feeder ≡ true →
-    turn.player ≡ self → turn.stop ≡ Some BadLine → OpenTurns self turn
+pub open_again : (self : Playing) (old : View) (feeder : Option (List ℕ)) (fed : List ℕ) (turn : Turn) → playing old feeder ≡ self → IsFedBy old.journal feeder → feeder ≡ Some fed →
+    turn.player ≡ playing old (Some fed) → turn.stop ≡ Some BadLine → OpenTurns self turn
 unfolding OpenTurns
-open_again self old feeder turn seen fed there player stop =
-    let sessions : sessions_of (past_of old.journal) ≡ 1 ∷ [] = fed.sessions ∙ ap (λ (b : Bool). cond b (1 ∷ []) []) there in
+open_again self old feeder fed turn seen given there player stop =
+    let sessions : sessions_of (past_of old.journal) ≡ 1 ∷ [] = given.sessions ∙ ap (λ (f : Option (List ℕ)). cond (is_some f) (1 ∷ []) []) there in
     let later : (length (sessions_of (past_of old.journal)) == 0) ≡ false = rw sessions refl in
-    let turns : Turns (playing old feeder) (open_step old.world old.limits record { journal = old.journal; fed = option_to_list feeder }) turn =
-    where_later (playing old feeder) (length (sessions_of (past_of old.journal)) == 0) (core_step old.world old.limits record { journal = old.journal; fed = option_to_list feeder ++ [] ∷ [] } step.Open) turn later
-    (player ∙ sym seen) stop in
-    subst (λ (p : Playing). Turns p (open_step p.world p.limits p.played) turn) seen turns
+    let turns : Turns (playing old (Some fed)) (open_step old.world old.limits record { journal = old.journal; fed = fed ∷ [] }) turn =
+    where_later (playing old (Some fed)) (length (sessions_of (past_of old.journal)) == 0) (core_step old.world old.limits record { journal = old.journal; fed = fed ∷ [] ∷ [] } step.Open) turn later player stop in
+    subst (λ (p : Playing). Turns p (open_step p.world p.limits p.played) turn) (ap (λ (f : Option (List ℕ)). playing old f) (sym there) ∙ seen) turns
 
 -- nothing was opened where there are no bytes
-pub none_opened : (old : View) (feeder : Option (List ℕ)) → IsFedBy old.journal feeder → is_some feeder ≡ false → sessions_of (past_of old.journal) ≡ []
-none_opened old feeder fed missing = fed.sessions ∙ ap (λ (b : Bool). cond b (1 ∷ []) []) missing
+pub none_opened : (old : View) (feeder : Option (List ℕ)) → IsFedBy old.journal feeder → feeder ≡ None → sessions_of (past_of old.journal) ≡ []
+none_opened old feeder fed missing = fed.sessions ∙ ap (λ (f : Option (List ℕ)). cond (is_some f) (1 ∷ []) []) missing
 
 -- a fault that is not want of memory
 pub unlike_memory : {A : Type 0} (given : Result A StepFault) (fault : Option StepFault) → fault ≡ result_err given → fault ≢ Some Memory → given ≢ Err Memory

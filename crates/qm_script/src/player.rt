@@ -1,4 +1,4 @@
-ghost use Rattle.std.specs.Prelude.{◌≡◌, ◌≢◌, ◌≤◌, ◌++◌, [], IfOk, OnOk, IfSome, Some, None, option_map, is_none, if◌then◌else◌};
+ghost use Rattle.std.specs.Prelude.{◌≡◌, ◌≢◌, ◌≤◌, ◌++◌, [], IfOk, OnOk, IfSome, IsSome, Some, None, option_map, is_none, if◌then◌else◌};
 ghost use Rattle.qm_core.specs.Legal.{past_of};
 ghost use Rattle.qm_core.specs.Next.{Start, Take, End, Drop, Finish};
 ghost use Rattle.qm_core.specs.Next as step;
@@ -111,11 +111,14 @@ fn stop_told(fault: Option<StepFault>) -> Result<Option<Stop>, NoMemory>
     }
 }
 
-/// The bytes of a session that an `open` opened, if it did.
-fn first_fed(feeder: Feeder, stop: Option<Stop>) -> Option<Feeder>
-    ensures { result ≡ (if is_none stop then Some feeder else None) }
+/// The bytes of a session that an `open` opened, if it did: none yet.
+fn first_fed(alloc: Global, stop: Option<Stop>) -> Result<Option<Feeder>, NoMemory>
+    ensures { IfOk result (λ feeder. feeder ≡ (if is_none stop then Some [] else None)) }
 {
-    if stop.is_none() { Some(feeder) } else { None }
+    match stop {
+        Some(_) => Ok(None),
+        None => Ok(Some(Feeder::new(alloc)?)),
+    }
 }
 
 /// Feeds more bytes, where a session was opened.
@@ -146,6 +149,17 @@ fn turned(monitor: Monitor, feeder: Option<Feeder>, stop: Option<Stop>) -> Turn
         player: Player { monitor, feeder },
         stop,
     }
+}
+
+/// Opens the first session of a monitor.
+fn open_first(alloc: Global, monitor: Monitor) -> Result<Turn, NoMemory>
+    requires { sessions_of (past_of monitor.journal) ≡ [] }
+    ensures { IfOk result (OpenTurns (playing monitor None)) }
+{
+    let mut monitor = monitor;
+    let stop = stop_told(monitor.open(alloc).err())?;
+    let feeder = first_fed(alloc, stop)?;
+    Ok(turned(monitor, feeder, stop))
 }
 
 impl Player {
@@ -192,26 +206,14 @@ impl Player {
         }
     }
 
-    fn open_first(self, alloc: Global) -> Result<Turn, NoMemory>
-        requires { sessions_of (past_of self.played.journal) ≡ [] }
-        ensures { IfOk result (OpenTurns self) }
-    {
-        let Player {
-            mut monitor,
-            feeder: _,
-        } = self;
-        let feeder = Feeder::new(alloc)?;
-        let stop = stop_told(monitor.open(alloc).err())?;
-        Ok(turned(monitor, first_fed(feeder, stop), stop))
-    }
-
     fn open(self, alloc: Global) -> Result<Turn, NoMemory>
         ensures { IfOk result (OpenTurns self) }
     {
-        if self.feeder.is_some() {
-            return Ok(self.refused(Stop::BadLine));
+        let Player { monitor, feeder } = self;
+        match feeder {
+            Some(feeder) => Ok(turned(monitor, Some(feeder), Some(Stop::BadLine))),
+            None => open_first(alloc, monitor),
         }
-        self.open_first(alloc)
     }
 
     /// Why a session takes nothing, where it was never opened or is closed.
@@ -276,27 +278,45 @@ impl Player {
         }
     }
 
-    fn admit_input(self, alloc: Global, session: u32, input: Input) -> Result<Turn, NoMemory>
-        requires { IsCleanInput input }
-        ensures { IfOk result (StepTurns self (step.Admit session input)) }
+    fn admit_offer(self, session: u32, offer: Offer) -> Turn
+        requires { IsSome offer }
+        ensures { IfSome offer (λ input. StepTurns self (step.Admit session input) result) }
     {
         let Player {
             mut monitor,
             feeder,
         } = self;
-        let mut offer = Offer::of(alloc, input)?;
+        let mut offer = offer;
         let stop = stop_for(monitor.admit(session, &mut offer).err());
-        Ok(turned(monitor, feeder, stop))
+        turned(monitor, feeder, stop)
+    }
+
+    fn admit_input(self, alloc: Global, session: u32, input: Input) -> Result<Turn, NoMemory>
+        requires { IsCleanInput input }
+        ensures { IfOk result (StepTurns self (step.Admit session input)) }
+    {
+        let offer = Offer::of(alloc, input)?;
+        Ok(self.admit_offer(session, offer))
+    }
+
+    fn admit_next(self, alloc: Global, session: u32, input: Option<Input>) -> Result<Turn, NoMemory>
+        requires more { closed_stop self session ≡ None }
+        requires next { input ≡ next_input_of self session }
+        requires clean { IfSome input IsCleanInput }
+        ensures { IfOk result (AdmitTurns self session) }
+    {
+        match input {
+            Some(input) => self.admit_input(alloc, session, input),
+            None => Ok(self.refused(Stop::Step(StepWord::NoFrame))),
+        }
     }
 
     fn admit_open(self, alloc: Global, session: u32) -> Result<Turn, NoMemory>
         requires { closed_stop self session ≡ None }
         ensures { IfOk result (AdmitTurns self session) }
     {
-        match self.next_input(session)? {
-            Some(input) => self.admit_input(alloc, session, input),
-            None => Ok(self.refused(Stop::Step(StepWord::NoFrame))),
-        }
+        let input = self.next_input(session)?;
+        self.admit_next(alloc, session, input)
     }
 
     fn admit(self, alloc: Global, session: u32) -> Result<Turn, NoMemory>
