@@ -160,18 +160,18 @@ record AreSaidActs (scope : Scope) (acts : List Act) : Type 0 where
 
 each-said : (scope : Scope) (items : List Json) (acts : List Act) → list_all is_clean items ≡ true → each_of (map (act_of scope) items) ≡ Some acts → AreSaidActs scope acts
 each-said scope [] acts h e = let s : [] ≡ acts = cc in record { file = ap (list_all (is_file_act scope)) (sym s); clean = ap (list_all is_clean_act) (sym s) }
-each-said scope (v ∷ items) acts h e = by_parts (act_of scope v) (each_of (map (act_of scope) items)) refl refl e
+each-said scope (v ∷ items) acts h e = by_parts (λ more q. each-said scope items more (and_parts (is_clean v) (list_all is_clean items) h).1 q) (act_of scope v) (each_of (map (act_of scope) items)) refl refl e
   where
     parts : (is_clean v ≡ true) × (list_all is_clean items ≡ true)
     parts = and_parts (is_clean v) (list_all is_clean items) h
 
-    by_parts : (o : Option Act) (rest : Option (List Act)) → act_of scope v ≡ o → each_of (map (act_of scope) items) ≡ rest → with_each o rest ≡ Some acts → AreSaidActs scope acts
-    by_parts None rest p q e = absurd cc
-    by_parts (Some a) None p q e = absurd cc
-    by_parts (Some a) (Some more) p q e =
+    by_parts : ((more : List Act) → each_of (map (act_of scope) items) ≡ Some more → AreSaidActs scope more) → (o : Option Act) (rest : Option (List Act)) → act_of scope v ≡ o → each_of (map (act_of scope) items) ≡ rest → with_each o rest ≡ Some acts → AreSaidActs scope acts
+    by_parts rests None rest p q e = absurd cc
+    by_parts rests (Some a) None p q e = absurd cc
+    by_parts rests (Some a) (Some more) p q e =
         let s : a ∷ more ≡ acts = cc in
         let one = act-said scope v a parts.0 p in
-        let others = each-said scope items more parts.1 q in
+        let others = rests more q in
         record { file = ap (list_all (is_file_act scope)) (sym s) ∙ and_from _ _ one.file others.file; clean = ap (list_all is_clean_act) (sym s) ∙ and_from _ _ one.clean others.clean }
 
 given-said : (scope : Scope) (v : Json) (acts : List Act) → is_clean v ≡ true → acts_given scope v ≡ Some acts → AreSaidActs scope acts
@@ -203,13 +203,10 @@ made-said scope recipe (Some a) None w acts ret e = absurd cc
 made-said scope recipe (Some a) (Some r) None acts ret e = absurd cc
 made-said scope recipe (Some a) (Some r) (Some w) acts ret e = by_wait (may_wait_for w (length a)) refl e
   where
-    made : Recipe
-    made = record { acts = a; ret = r; waiting = w }
-
-    by_wait : (b : Bool) → may_wait_for w (length a) ≡ b → cond b (Some made) None ≡ Some recipe → IsSaidRecipe scope recipe
-    unfolding made
+    by_wait : (b : Bool) → may_wait_for w (length a) ≡ b → cond b (Some (record { acts = a; ret = r; waiting = w })) None ≡ Some recipe → IsSaidRecipe scope recipe
     by_wait false p e = absurd cc
     by_wait true p e =
+        let made : Recipe = record { acts = a; ret = r; waiting = w } in
         let s : made ≡ recipe = cc in
         record {
           file = record {

@@ -39,7 +39,7 @@ pub file-Array : (scope : Scope) (items : List Template) → is_file_template sc
 file-Array scope items =
     ap (is_file_template scope) (sym (rolls-Array items)) ∙ fold-roll-Template Bool Bool (file_layer scope) file_member_layer (layer.Template-F.Array items) ∙ list_all-map (λ (b : Bool). b) (is_file_template scope) items
 
-clean-Arg : (name : List ℕ) → is_clean_template (template.Arg name) ≡ true
+pub clean-Arg : (name : List ℕ) → is_clean_template (template.Arg name) ≡ true
 clean-Arg name = ap is_clean_template (sym (rolls-Arg name)) ∙ fold-roll-Template Bool NameAndTest clean_layer clean_member_layer (layer.Template-F.Arg name)
 
 clean-Args : is_clean_template template.Args ≡ true

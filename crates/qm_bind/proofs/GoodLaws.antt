@@ -1,5 +1,5 @@
 -- What a file is bound to is good.
-use Rattle.std.proofs.Common.{◌≡◌, ℕ, Bool, true, false, not, ◌&&◌, ◌++◌, cond, if◌then◌else◌, List, [], ◌∷◌, map, Option, Some, None, Result, Ok, option_map, unwrap_or, refl, ap, sym, ◌∙◌, subst}
+use Rattle.std.proofs.Common.{◌≡◌, ◌≢◌, ℕ, Bool, true, false, not, ◌&&◌, ◌++◌, cond, if◌then◌else◌, List, [], ◌∷◌, map, Option, Some, None, Result, Ok, Err, IfOk, option_map, unwrap_or, refl, ap, sym, ◌∙◌, subst}
 use Rattle.std.specs.Prelude.{codes, option_and_then, IsTrue}
 use Rattle.std.specs.{List.All, List.AllZip, List.cons_option, List.list_all, Option.option_or, Str.bytes_eq, Str.is_utf8}
 use Rattle.std.proofs.lemmas.{Bool.and_from, Bool.and_parts, List.Elements.All-cons, List.Elements.All-nil}
@@ -18,7 +18,8 @@ use Rattle.qm_plan.specs.declared.{recipes.Act.Act, recipes.Recipe.Recipe, verbs
 use Rattle.qm_plan.specs.declared.recipes.Act.TheVariants as act
 use Rattle.qm_plan.proofs.Inductions.{is_clean-Const}
 use Rattle.qm_bind.specs.declared.binding.Binding.{Binding}
-use Rattle.qm_bind.specs.{Bindings.bind_of, Bindings.bound_of, Bindings.first_cell, Bindings.given_recipe, Bindings.recipe_for, Bindings.recipes_for, Faults.file_fault, Faults.member_names, Faults.scope_of, Grammar.Scope, Grammar.text_of, Parts.FileParts, Parts.names_of, Parts.parts_of}
+use Rattle.qm_bind.specs.declared.fault.BindFault.{BindFault}
+use Rattle.qm_bind.specs.{Bindings.bind_of, Bindings.bound_of, Bindings.first_cell, Bindings.given_recipe, Bindings.no_memory, Bindings.recipe_for, Bindings.recipes_for, Faults.file_fault, Faults.member_names, Faults.scope_of, Grammar.Scope, Grammar.text_of, Parts.FileParts, Parts.names_of, Parts.parts_of}
 use Rattle.qm_bind.specs.Goodness.{IsGoodBinding, IsRecipeFor, IsStandingOr, is_clean_cell, scope_for}
 use Rattle.qm_bind.specs.{Recipes.empty_object, Recipes.plain_recipe, Recipes.recipe_of, Standing.acting, Standing.act_named, Standing.answer_named, Standing.answering, Standing.standing_recipe, Standing.verb_named}
 use Rattle.qm_bind.proofs.BoundLaws.{bound-from, bound_cells, bound_tallies, names-are, no-tally-fault, one-true}
@@ -97,23 +98,18 @@ scopes-are p file c = λ j. record {
 recipe-good : (p : Parts) (file : FileParts) (members : List Member) (c : CommandDef) → list_all is_clean_member members ≡ true → IsCleanFor p (bound_of p file) c (recipe_for p file members c)
 recipe-good p file members c h = by_standing (standing_recipe c.name) refl
   where
-    scope : Scope
-    scope = scope_for p (bound_of p file) c.arg
-
-    of-scope : (v : Json) (r : Recipe) → is_clean v ≡ true → recipe_of (scope_of p file c) v ≡ Some r → IsSaidRecipe scope r
-    unfolding scope
+    of-scope : (v : Json) (r : Recipe) → is_clean v ≡ true → recipe_of (scope_of p file c) v ≡ Some r → IsSaidRecipe (scope_for p (bound_of p file) c.arg) r
     of-scope v r k e = subst (λ (s : Scope). IsSaidRecipe s r) (scopes-are p file c) (recipe-said (scope_of p file c) v r k e)
 
-    from-said : (r : Recipe) → standing_recipe c.name ≡ None → IsSaidRecipe scope r → IsCleanFor p (bound_of p file) c r
-    unfolding scope
+    from-said : (r : Recipe) → standing_recipe c.name ≡ None → IsSaidRecipe (scope_for p (bound_of p file) c.arg) r → IsCleanFor p (bound_of p file) c r
     from-said r e s = record { own = subst (λ (o : Option Recipe). IsStandingOr o (scope_for p (bound_of p file) c.arg) r) (sym e) s.file; clean = s.clean }
 
     by_recipe : (v : Json) → is_clean v ≡ true → standing_recipe c.name ≡ None → (o : Option Recipe) → recipe_of (scope_of p file c) v ≡ o → IsCleanFor p (bound_of p file) c (unwrap_or o plain_recipe)
-    by_recipe v k e None q = from-said plain_recipe e (plain-said scope)
+    by_recipe v k e None q = from-said plain_recipe e (plain-said (scope_for p (bound_of p file) c.arg))
     by_recipe v k e (Some r) q = from-said r e (of-scope v r k q)
 
     by_given : standing_recipe c.name ≡ None → (o : Option Json) → value_in members c.name ≡ o → IsCleanFor p (bound_of p file) c (unwrap_or (option_and_then (recipe_of (scope_of p file c)) o) plain_recipe)
-    by_given e None q = from-said plain_recipe e (plain-said scope)
+    by_given e None q = from-said plain_recipe e (plain-said (scope_for p (bound_of p file) c.arg))
     by_given e (Some v) q = by_recipe v (found-clean members c.name v h q) e (recipe_of (scope_of p file c) v) refl
 
     by_standing : (o : Option Recipe) → standing_recipe c.name ≡ o → IsCleanFor p (bound_of p file) c (unwrap_or o (unwrap_or (given_recipe p file members c) plain_recipe))
@@ -136,14 +132,14 @@ clean-first (m ∷ cells) h =
 
 utf8-texts : (items : List Json) → list_all is_clean items ≡ true → list_all is_utf8 (names_of items) ≡ true
 utf8-texts [] h = refl
-utf8-texts (v ∷ items) h = by_text (text_of v) refl
+utf8-texts (v ∷ items) h = by_text (utf8-texts items (and_parts (is_clean v) (list_all is_clean items) h).1) (text_of v) refl
   where
     parts : (is_clean v ≡ true) × (list_all is_clean items ≡ true)
     parts = and_parts (is_clean v) (list_all is_clean items) h
 
-    by_text : (o : Option (List ℕ)) → text_of v ≡ o → list_all is_utf8 (cons_option o (names_of items)) ≡ true
-    by_text None e = utf8-texts items parts.1
-    by_text (Some text) e = and_from (is_utf8 text) (list_all is_utf8 (names_of items)) (text-utf8 v text parts.0 e) (utf8-texts items parts.1)
+    by_text : list_all is_utf8 (names_of items) ≡ true → (o : Option (List ℕ)) → text_of v ≡ o → list_all is_utf8 (cons_option o (names_of items)) ≡ true
+    by_text rest None e = rest
+    by_text rest (Some text) e = and_from (is_utf8 text) (list_all is_utf8 (names_of items)) (text-utf8 v text parts.0 e) rest
 
 seen-more : (seen : List (List ℕ)) (name x : List ℕ) → stands x (seen ++ name ∷ []) ≡ false → stands x seen ≡ false
 seen-more seen name x h = by_test (stands x seen) refl
@@ -155,11 +151,11 @@ seen-more seen name x h = by_test (stands x seen) refl
 -- names of which none stands among those seen before
 once-apart : (seen first names : List (List ℕ)) → ((x : List ℕ) → stands x seen ≡ false → stands x first ≡ false) → again seen names ≡ None → list_all (λ name. not (is_named first name)) names ≡ true
 once-apart seen first [] f h = refl
-once-apart seen first (name ∷ names) f h = by_seen (stands name seen) refl h
+once-apart seen first (name ∷ names) f h = by_seen (λ more. once-apart (seen ++ name ∷ []) first names (λ x k. f x (seen-more seen name x k)) more) (stands name seen) refl h
   where
-    by_seen : (b : Bool) → stands name seen ≡ b → cond b (Some name) (again (seen ++ name ∷ []) names) ≡ None → (not (is_named first name) && list_all (λ name. not (is_named first name)) names) ≡ true
-    by_seen true e h = absurd cc
-    by_seen false e h = and_from (not (is_named first name)) (list_all (λ name. not (is_named first name)) names) (ap not (f name e)) (once-apart (seen ++ name ∷ []) first names (λ x k. f x (seen-more seen name x k)) h)
+    by_seen : (again (seen ++ name ∷ []) names ≡ None → list_all (λ name. not (is_named first name)) names ≡ true) → (b : Bool) → stands name seen ≡ b → cond b (Some name) (again (seen ++ name ∷ []) names) ≡ None → (not (is_named first name) && list_all (λ name. not (is_named first name)) names) ≡ true
+    by_seen rest true e h = absurd cc
+    by_seen rest false e h = and_from (not (is_named first name)) (list_all (λ name. not (is_named first name)) names) (ap not (f name e)) (rest h)
 
 -- what a file is bound to is good
 pub bound_good : (p : Parts) (text : List ℕ) (binding : Binding) → bind_of p text ≡ Ok binding → IsGoodBinding p binding
@@ -180,3 +176,8 @@ bound_good p text binding h =
           ∙ ap (λ (names : List (List ℕ)). list_all (λ tally. not (is_named names tally)) (names_of b.file.tallies)) (names-are b.file.cells)
           ∙ once-apart (member_names b.file.cells) (member_names b.file.cells) (names_of b.file.tallies) (λ x k. k) (no-tally-fault p b.file b.faultless);
     }
+
+-- the same of an answer that is what the text is bound to, unless memory was wanting
+pub result-good : (p : Parts) (text : List ℕ) (r : Result Binding BindFault) → (r ≢ Err no_memory → r ≡ bind_of p text) → IfOk r (IsGoodBinding p)
+result-good p text (Ok binding) h = bound_good p text binding (sym (h (λ e. cc)))
+result-good p text (Err f) h = tt

@@ -135,3 +135,6 @@ scope_known known = scope_for known.schema.now known.binding.now known.arg
 
 abbrev pub is_file_member : Scope → TemplateMember → Bool
 is_file_member scope m = is_file_template scope m.template
+
+abbrev pub template_names : List TemplateMember → List (List ℕ)
+template_names members = map (λ (m : TemplateMember). m.name) members

@@ -7,7 +7,7 @@ ghost use Rattle.qm_plan.specs.Cleanness as templates;
 ghost use Rattle.qm_bind.specs.Goodness as goodness;
 
 use crate::literals::{is_in_whole_range, is_literal, is_whole_literal};
-use crate::named::have_own_names;
+use crate::named::{distinct_members, distinct_templates};
 use qm_json::{Json, Member};
 use qm_plan::{Act, Cell, Template, TemplateMember};
 
@@ -41,7 +41,7 @@ pub fn is_clean(value: &Json) -> bool
         Json::Str(bytes) => is_utf8(bytes.as_slice()),
         Json::Arr(items) => are_clean(items.as_slice()),
         Json::Obj(members) => {
-            have_own_names(members.as_slice()) && are_clean_members(members.as_slice())
+            distinct_members(members.as_slice()) && are_clean_members(members.as_slice())
         }
     }
 }
@@ -85,7 +85,7 @@ pub fn is_clean_template(template: &Template) -> bool
     match template {
         Template::Const(value) => is_clean(value),
         Template::Object(members) => {
-            have_own_names(members.as_slice()) && are_clean_named(members.as_slice())
+            distinct_templates(members.as_slice()) && are_clean_named(members.as_slice())
         }
         Template::Array(items) => are_clean_templates(items.as_slice()),
         Template::Arg(_) => true,

@@ -5,7 +5,7 @@ ghost use Rattle.qm_bind.specs.Walks.{is_file_member, scope_known};
 
 use crate::binding::Binding;
 use crate::members::is_argument;
-use crate::named::has_name;
+use crate::named::{has_cell, has_text};
 use crate::recipes::may_wait;
 use qapi_types::{ArgType, Schema};
 use qm_plan::{Act, Recipe, Template, TemplateMember};
@@ -31,13 +31,13 @@ impl<'a> Known<'a> {
     fn has_cell(&self, name: &[u8]) -> bool
         ensures { result ≡ (scope_known self.now).is_cell name.now }
     {
-        has_name(self.binding.cells.as_slice(), name)
+        has_cell(self.binding.cells.as_slice(), name)
     }
 
     fn has_tally(&self, name: &[u8]) -> bool
         ensures { result ≡ (scope_known self.now).is_tally name.now }
     {
-        has_name(self.binding.tallies.as_slice(), name)
+        has_text(self.binding.tallies.as_slice(), name)
     }
 }
 

@@ -11,7 +11,7 @@ ghost use Rattle.qm_bind.specs.Goodness.{IsGoodBinding, IsRecipeFor, is_clean_ce
 use crate::binding::Binding;
 use crate::cleanness::{is_clean_act, is_clean_cell, is_clean_template, is_utf8};
 use crate::file_recipes::{Known, is_file_recipe};
-use crate::named::{has_name, have_own_names};
+use crate::named::{distinct_cells, distinct_texts, has_cell};
 use crate::standing::is_standing;
 use crate::standing_recipes::is_standing_recipe;
 use qapi_types::{CommandDef, EventDef, Schema};
@@ -104,20 +104,13 @@ fn are_utf8(tallies: &[Text]) -> bool
     tallies.iter().all(|tally| is_utf8(tally.as_slice()))
 }
 
-/// Whether no cell has the name.
-fn is_new(cells: &[Cell], name: &[u8]) -> bool
-    ensures { result ≡ not (is_named (names_of cells.now) name.now) }
-{
-    !has_name(cells, name)
-}
-
 /// Whether no tally has the name of a cell.
 fn are_apart(cells: &[Cell], tallies: &[Text]) -> bool
     ensures { result ≡ list_all (λ tally. not (is_named (names_of cells.now) tally)) tallies.now }
 {
     tallies
         .iter()
-        .all(|tally| is_new(cells, tally.as_slice()))
+        .all(|tally| !has_cell(cells, tally.as_slice()))
 }
 
 /// Whether cells and tallies are such as a file can name.
@@ -125,7 +118,7 @@ fn have_good_names(cells: &[Cell], tallies: &[Text]) -> bool
     ensures { result ≡ (are_distinct (names_of cells.now) && are_distinct tallies.now
         && list_all (λ tally. not (is_named (names_of cells.now) tally)) tallies.now) }
 {
-    have_own_names(cells) && have_own_names(tallies) && are_apart(cells, tallies)
+    distinct_cells(cells) && distinct_texts(tallies) && are_apart(cells, tallies)
 }
 
 /// Whether a text can spell what the recipes, the cells and the tallies hold.

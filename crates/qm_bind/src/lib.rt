@@ -28,4 +28,7 @@ pub use binding::{Binding, RecipeList};
 pub use checking::bind;
 pub use fault::{BindFault, BindRule};
 pub use goodness::binding_good;
-pub use laws::{each_argument_is_a_member, each_binding_has_distinct_names, memory_is_no_fault};
+pub use laws::{
+    each_argument_is_a_member, each_binding_has_distinct_names, each_binding_is_good,
+    memory_is_no_fault,
+};

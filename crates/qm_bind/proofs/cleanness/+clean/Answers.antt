@@ -9,15 +9,15 @@ use Rattle.qm_bind.proofs.cleanness.+clean.Goals as goal
 pub is_clean-returns-in-Arr : goal.is_clean-returns-in-Arr
 is_clean-returns-in-Arr t c = c.are_clean.ensures ∙ ap (list_all is_clean) c.as_slice-in-Arr.ensures ∙ sym (ap is_clean c.in-Arr.is ∙ is_clean-Arr _)
 
-pub is_clean-returns-then-have_own_names : goal.is_clean-returns-then-have_own_names
-is_clean-returns-then-have_own_names t c =
-    second-decides c.have_own_names.result c.are_clean_members.result _ _ (is_clean c.args.value.now) c.if-have_own_names.true
-    (c.have_own_names.ensures ∙ ap (λ ms. are_distinct (map (λ (m : Member). m.name) ms)) c.as_slice-in-Obj.ensures)
-    (c.are_clean_members.ensures ∙ ap (list_all is_clean_member) c.as_slice-then-have_own_names.ensures)
+pub is_clean-returns-then-distinct_members : goal.is_clean-returns-then-distinct_members
+is_clean-returns-then-distinct_members t c =
+    second-decides c.distinct_members.result c.are_clean_members.result _ _ (is_clean c.args.value.now) c.if-distinct_members.true
+    (c.distinct_members.ensures ∙ ap (λ ms. are_distinct (map (λ (m : Member). m.name) ms)) c.as_slice-in-Obj.ensures)
+    (c.are_clean_members.ensures ∙ ap (list_all is_clean_member) c.as_slice-then-distinct_members.ensures)
     (ap is_clean c.in-Obj.is ∙ is_clean-Obj _)
 
-pub is_clean-returns-else-have_own_names : goal.is_clean-returns-else-have_own_names
-is_clean-returns-else-have_own_names t c =
-    first-decides c.have_own_names.result _ _ (is_clean c.args.value.now) c.if-have_own_names.false
-    (c.have_own_names.ensures ∙ ap (λ ms. are_distinct (map (λ (m : Member). m.name) ms)) c.as_slice-in-Obj.ensures)
+pub is_clean-returns-else-distinct_members : goal.is_clean-returns-else-distinct_members
+is_clean-returns-else-distinct_members t c =
+    first-decides c.distinct_members.result _ _ (is_clean c.args.value.now) c.if-distinct_members.false
+    (c.distinct_members.ensures ∙ ap (λ ms. are_distinct (map (λ (m : Member). m.name) ms)) c.as_slice-in-Obj.ensures)
     (ap is_clean c.in-Obj.is ∙ is_clean-Obj _)
