@@ -1,7 +1,7 @@
 -- Recipes that a file gives are such as a file can say, and clean.
 use Rattle.std.proofs.Common.{◌≡◌, ℕ, Bool, true, false, ◌&&◌, cond, List, [], ◌∷◌, map, length, Option, Some, None, option_map, refl, ap, sym, ◌∙◌, nat_lt}
-use Rattle.std.specs.Prelude.{◌==◌, ◌^◌, ℤ, pos, negsuc, codes, option_and_then, IsTrue}
-use Rattle.std.specs.{List.AllByRecursion, List.list_all, Option.option_or, Str.is_utf8}
+use Rattle.std.specs.Prelude.{◌==◌, ◌^◌, ℤ, pos, negsuc, codes, option_and_then}
+use Rattle.std.specs.{List.list_all, Option.option_or, Str.is_utf8}
 use Rattle.std.proofs.lemmas.{Bool.and_from, Bool.and_parts}
 use Rattle.qm_json.specs.declared.value.{Json.Json, Json.roll-Json, Json.out-Json, Member.Member, Json.TheOpen.Json-F}
 use Rattle.qm_json.specs.declared.value.Json.TheVariants as json
@@ -12,11 +12,11 @@ use Rattle.qm_json.specs.{Cleanness.is_clean, Members.member_of, Members.members
 use Rattle.qm_json.proofs.CleanLaws.{is_clean-Arr, is_clean-Obj, is_clean-Str}
 use Rattle.qm_plan.specs.{Cleanness.IsCleanRecipe, Cleanness.is_clean_act, Cleanness.is_clean_template}
 use Rattle.qm_plan.specs.declared.templates.Template.{Template}
-use Rattle.qm_plan.specs.declared.recipes.{Act.Act, Recipe.Recipe, Waiting.Waiting, Waiting.TheVariants.No}
+use Rattle.qm_plan.specs.declared.recipes.{Act.Act, Recipe.Recipe, Waiting.Waiting}
 use Rattle.qm_plan.specs.declared.recipes.Act.TheVariants as act
 use Rattle.qm_plan.proofs.Inductions.{is_clean-Const}
 use Rattle.qm_bind.specs.{Goodness.IsFileRecipe, Goodness.is_file_act, Goodness.is_file_template, Grammar.Scope, Grammar.each_of, Grammar.known_name, Grammar.layer_text, Grammar.template_of, Grammar.text_of, Grammar.where_known, Grammar.with_each}
-use Rattle.qm_bind.specs.Recipes.{Pair, act_of, acts_given, acts_of, add_act, add_of, amount_in, amount_of, array_of, both_in, empty_object, fail_act, is_recipe_object, layer_amount, layer_items, may_wait_for, only_in, only_two_in, pair_of, plain_recipe, recipe_from, recipe_in, recipe_of, returned_of, set_act, set_of, waiting_of}
+use Rattle.qm_bind.specs.Recipes.{Pair, act_of, acts_given, acts_of, add_act, add_of, amount_in, amount_of, array_of, both_in, empty_object, fail_act, is_recipe_object, layer_amount, may_wait_for, only_two_in, pair_of, plain_recipe, recipe_from, recipe_in, recipe_of, returned_of, set_act, set_of, waiting_of}
 use Rattle.qm_bind.proofs.CleanParts.{array-is, member-clean}
 use Rattle.qm_bind.proofs.FileTemplates.{IsSaid, file-Const, template-said}
 

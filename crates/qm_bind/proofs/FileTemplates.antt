@@ -1,6 +1,6 @@
 -- Templates that a file can say, by their outermost layer, and that those which a file gives are such, and clean.
-use Rattle.std.proofs.Common.{◌≡◌, ℕ, Bool, true, false, ◌&&◌, cond, if◌then◌else◌, List, [], ◌∷◌, map, Option, Some, None, option_map, refl, ap, sym, ◌∙◌, subst}
-use Rattle.std.specs.Prelude.{codes, option_and_then}
+use Rattle.std.proofs.Common.{◌≡◌, ℕ, Bool, true, false, cond, if◌then◌else◌, List, [], ◌∷◌, map, Option, Some, None, option_map, refl, ap, sym, ◌∙◌, subst}
+use Rattle.std.specs.Prelude.{codes}
 use Rattle.std.specs.{List.AllByRecursion, List.list_all, Str.bytes_eq, Str.is_utf8}
 use Rattle.std.proofs.lemmas.{Bool.and_from, Bool.and_parts, List.Folds.list_all-map}
 use Rattle.qm_json.specs.declared.value.{Json.Json, Json.out-Json, Member.Member, Json.TheOpen.Json-F}
@@ -8,7 +8,7 @@ use Rattle.qm_json.specs.declared.value.Json.TheVariants as json
 use Rattle.qm_json.specs.declared.value.Json.TheOpen as json_layer
 use Rattle.qm_json.specs.declared.value.Json.TheViews.{outs-Null, outs-Bool, outs-Int, outs-Num, outs-Str, outs-Arr, outs-Obj}
 use Rattle.qm_json.specs.Cleanness.{NameAndTest, are_distinct, is_clean, is_clean_member as is_clean_value_member}
-use Rattle.qm_json.proofs.{CleanLaws.is_clean-Arr, CleanLaws.is_clean-Obj, CleanLaws.is_clean-Str, CleanLaws.is_clean_member-is as value_member-is, Inductions.every-Json}
+use Rattle.qm_json.proofs.{CleanLaws.is_clean-Arr, CleanLaws.is_clean-Obj, CleanLaws.is_clean_member-is as value_member-is, Inductions.every-Json}
 use Rattle.qm_plan.specs.Cleanness.{clean_layer, clean_member_layer, is_clean_member, is_clean_template}
 use Rattle.qm_plan.specs.declared.templates.{Template.Template, TemplateMember.TemplateMember}
 use Rattle.qm_plan.specs.declared.templates.Template.{TheFolds.fold-TemplateMember, TheFolds.fold-roll-Template, TheFolds.fold-roll-TemplateMember}
@@ -16,7 +16,7 @@ use Rattle.qm_plan.specs.declared.templates.Template.TheVariants as template
 use Rattle.qm_plan.specs.declared.templates.Template.TheVariants.{rolls-Const, rolls-Arg, rolls-Args, rolls-Cell, rolls-Tally, rolls-Object, rolls-Array}
 use Rattle.qm_plan.specs.declared.templates.Template.TheOpen as layer
 use Rattle.qm_plan.proofs.Inductions.{is_clean-Array, is_clean-Const, is_clean-Object, is_clean_member-is}
-use Rattle.qm_bind.specs.{Goodness.file_layer, Goodness.file_member_layer, Goodness.is_file_template, Grammar.Scope, Grammar.each_of, Grammar.is_true, Grammar.known_name, Grammar.layer_text, Grammar.naming_template, Grammar.simple_template, Grammar.template_of, Grammar.text_of, Grammar.where_known, Grammar.with_each, Grammar.with_name}
+use Rattle.qm_bind.specs.{Goodness.file_layer, Goodness.file_member_layer, Goodness.is_file_template, Grammar.Scope, Grammar.each_of, Grammar.is_true, Grammar.known_name, Grammar.naming_template, Grammar.simple_template, Grammar.template_of, Grammar.text_of, Grammar.where_known, Grammar.with_each, Grammar.with_name}
 use Rattle.qm_bind.specs.Walks.{is_file_member, item_templates, layer_members, layer_template, layer_templates, member_template, member_templates, template_among, template_at}
 use Rattle.qm_bind.proofs.Layers.{template-is}
 

@@ -1,11 +1,11 @@
 -- What a file is bound to is good.
 use Rattle.std.proofs.Common.{◌≡◌, ◌≢◌, ℕ, Bool, true, false, not, ◌&&◌, ◌++◌, cond, if◌then◌else◌, List, [], ◌∷◌, map, Option, Some, None, Result, Ok, Err, IfOk, option_map, unwrap_or, refl, ap, sym, ◌∙◌, subst}
-use Rattle.std.specs.Prelude.{codes, option_and_then, IsTrue}
+use Rattle.std.specs.Prelude.{codes, option_and_then}
 use Rattle.std.specs.{List.All, List.AllZip, List.cons_option, List.list_all, Option.option_or, Str.bytes_eq, Str.is_utf8}
 use Rattle.std.proofs.lemmas.{Bool.and_from, Bool.and_parts, List.Elements.All-cons, List.Elements.All-nil}
 use Rattle.qm_base.specs.Names.{is_named}
 use Rattle.qm_json.specs.declared.value.{Json.Json, Member.Member}
-use Rattle.qm_json.specs.{Cleanness.NameAndTest, Cleanness.are_distinct, Cleanness.is_clean, Cleanness.is_clean_member, Members.value_in}
+use Rattle.qm_json.specs.{Cleanness.NameAndTest, Cleanness.is_clean, Cleanness.is_clean_member, Members.value_in}
 use Rattle.qm_json.proofs.CleanLaws.{is_clean-Obj, is_clean_member-is}
 use Rattle.qapi_types.specs.declared.parts.{CommandDef.CommandDef, Parts.Parts}
 use Rattle.qapi_types.specs.Choices.{again, stands}
@@ -19,7 +19,7 @@ use Rattle.qm_plan.specs.declared.recipes.Act.TheVariants as act
 use Rattle.qm_plan.proofs.Inductions.{is_clean-Const}
 use Rattle.qm_bind.specs.declared.binding.Binding.{Binding}
 use Rattle.qm_bind.specs.declared.fault.BindFault.{BindFault}
-use Rattle.qm_bind.specs.{Bindings.bind_of, Bindings.bound_of, Bindings.first_cell, Bindings.given_recipe, Bindings.no_memory, Bindings.recipe_for, Bindings.recipes_for, Faults.file_fault, Faults.member_names, Faults.scope_of, Grammar.Scope, Grammar.text_of, Parts.FileParts, Parts.names_of, Parts.parts_of}
+use Rattle.qm_bind.specs.{Bindings.bind_of, Bindings.bound_of, Bindings.first_cell, Bindings.given_recipe, Bindings.no_memory, Bindings.recipe_for, Faults.member_names, Faults.scope_of, Grammar.Scope, Grammar.text_of, Parts.FileParts, Parts.names_of}
 use Rattle.qm_bind.specs.Goodness.{IsGoodBinding, IsRecipeFor, IsStandingOr, is_clean_cell, scope_for}
 use Rattle.qm_bind.specs.{Recipes.empty_object, Recipes.plain_recipe, Recipes.recipe_of, Standing.acting, Standing.act_named, Standing.answer_named, Standing.answering, Standing.standing_recipe, Standing.verb_named}
 use Rattle.qm_bind.proofs.BoundLaws.{bound-from, bound_cells, bound_tallies, names-are, no-tally-fault, one-true}

@@ -1,5 +1,5 @@
 -- What a type's branches bring.
-use Rattle.std.proofs.Common.{◌≡◌, ◌+◌, ◌||◌, ℕ, suc, Bool, false, List, sym, ap, ◌∙◌, add-one}
+use Rattle.std.proofs.Common.{◌≡◌, ◌+◌, ◌||◌, ℕ, Bool, false, List, sym, ap, ◌∙◌, add-one}
 use Rattle.std.specs.List.{list_any}
 use Rattle.qm_base.specs.Names.{is_named}
 use Rattle.qapi_types.specs.declared.kind.{Branch.Branch, Kind.Kind}

@@ -1,6 +1,6 @@
 -- Which bindings are good for a schema: they say what a bind file can say, and a text can spell what is in them
 -- (this project's own rule).
-use Rattle.std.specs.Prelude.{◌≡◌, ℕ, nat_lt, Bool, true, false, ◌&&◌, not, List, map, length, Option, Some, None, IsTrue}
+use Rattle.std.specs.Prelude.{◌≡◌, nat_lt, Bool, true, false, ◌&&◌, not, map, length, Option, Some, None, IsTrue}
 use Rattle.std.specs.List.{All, AllZip, list_all}
 use Rattle.std.specs.Str.{is_utf8}
 use Rattle.qm_base.specs.Names.{is_named}

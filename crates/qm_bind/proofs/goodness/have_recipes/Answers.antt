@@ -1,7 +1,5 @@
-use Rattle.std.proofs.Common.{◌≡◌, ◌∙◌, ap, sym, length, arith, List}
-use Rattle.std.proofs.lemmas.Slice.Zip.{AllZip-long}
-use Rattle.qapi_types.specs.declared.parts.{CommandDef.CommandDef, Parts.Parts}
-use Rattle.qm_plan.specs.declared.recipes.Recipe.{Recipe}
+use Rattle.std.proofs.Common.{◌∙◌, ap, arith}
+use Rattle.qapi_types.specs.declared.parts.{Parts.Parts}
 use Rattle.qm_bind.specs.Goodness.{IsRecipeFor}
 use Rattle.qm_bind.proofs.PairLaws.{pair-more, other-length, other-pair}
 use Rattle.qm_bind.proofs.goodness.have_recipes.Goals as goal

@@ -1,5 +1,4 @@
-use Rattle.std.proofs.Common.{◌≡◌, ◌∙◌, ◌+◌, ℕ, ap, sym, arith, refl}
-use Rattle.qapi_types.specs.declared.kind.Kind.{Kind}
+use Rattle.std.proofs.Common.{arith}
 use Rattle.qm_bind.proofs.MemberLaws.{has-branch}
 use Rattle.qm_bind.proofs.members.+have.Goals as goal
 
