@@ -3,7 +3,7 @@
 use crate::schema::schema;
 use qapi_types::Schema;
 use qm_base::{NoMemory, Text};
-use qm_bind::{BindFault, BindRule, bind};
+use qm_bind::{BindFault, BindRule, bind, binding_good};
 use std::alloc::Global;
 use std::test::Fail;
 
@@ -94,6 +94,10 @@ fn rule_word(rule: BindRule) -> &'static [u8] {
     }
 }
 
+fn good_word(is_good: bool) -> &'static [u8] {
+    if is_good { b"ok" } else { b"not good" }
+}
+
 fn told(alloc: Global, fault: BindFault) -> Result<Text, NoMemory> {
     let mut text = Text::of(alloc, rule_word(fault.rule))?;
     if !fault.name.is_empty() {
@@ -105,7 +109,7 @@ fn told(alloc: Global, fault: BindFault) -> Result<Text, NoMemory> {
 
 fn answer(alloc: Global, schema: &Schema, file: &[u8]) -> Result<Text, NoMemory> {
     match bind(alloc, schema, file) {
-        Ok(_) => Text::of(alloc, b"ok"),
+        Ok(binding) => Text::of(alloc, good_word(binding_good(schema, &binding))),
         Err(fault) => told(alloc, fault),
     }
 }

@@ -5,6 +5,8 @@
 #[cfg(test)]
 mod files;
 #[cfg(test)]
+mod goodness;
+#[cfg(test)]
 mod plans;
 #[cfg(test)]
 mod schema;

@@ -44,7 +44,7 @@ bound-from p text binding h = by_text (reading_of text) refl h
     by_text (Ok v) e h = by_parts v (value-clean text v e) (parts_of v) refl h
     by_text (Err f) e h = absurd cc
 
-names-are : (cells : List Member) → cell_names (map first_cell cells) ≡ member_names cells
+pub names-are : (cells : List Member) → cell_names (map first_cell cells) ≡ member_names cells
 names-are [] = refl
 names-are (m ∷ cells) = λ j. m.name ∷ names-are cells j
 
@@ -58,7 +58,7 @@ or-true : (b : Bool) → (b || true) ≡ true
 or-true true = refl
 or-true false = refl
 
-one-true : (seen : List (List ℕ)) (name x : List ℕ) → stands x seen ≡ true → stands x (seen ++ name ∷ []) ≡ true
+pub one-true : (seen : List (List ℕ)) (name x : List ℕ) → stands x seen ≡ true → stands x (seen ++ name ∷ []) ≡ true
 one-true seen name x h = list_any-append (bytes_eq x) seen (name ∷ []) ∙ ap (λ (b : Bool). b || stands x (name ∷ [])) h
 
 itself-stands : (seen : List (List ℕ)) (name : List ℕ) → bytes_eq name name ≡ true → stands name (seen ++ name ∷ []) ≡ true
@@ -93,7 +93,7 @@ once-distinct seen (name ∷ names) h = by_seen (λ more. once-distinct (seen ++
     by_seen rest false h = and_from (not (list_any (λ other. bytes_eq other name) names)) (are_distinct names) (ap not (unseen (seen ++ name ∷ []) names name h (itself-stands seen name (itself name)))) (rest h)
 
 -- a file without a fault has none of its tallies
-no-tally-fault : (p : Parts) (file : FileParts) → file_fault p file ≡ None → again (member_names file.cells) (names_of file.tallies) ≡ None
+pub no-tally-fault : (p : Parts) (file : FileParts) → file_fault p file ≡ None → again (member_names file.cells) (names_of file.tallies) ≡ None
 no-tally-fault p file h = by_tally (again (member_names file.cells) (names_of file.tallies)) h
   where
     by_tally : (o : Option (List ℕ)) → option_or (option_map (fault rule.Twice) o) (later_fault p file) ≡ None → o ≡ None

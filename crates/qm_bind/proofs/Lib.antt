@@ -2,9 +2,15 @@ pub mod ArgumentLaws
 pub mod BoundLaws
 pub mod CleanParts
 pub mod Eaches
+pub mod FileRecipes
+pub mod FileTemplates
+pub mod GoodLaws
 pub mod Layers
+pub mod MemberLaws
 pub mod NameLaws
+pub mod NamedLaws
 pub mod OutcomeLaws
+pub mod PairLaws
 pub mod PlaceLaws
 pub mod RecipeLaws
 pub mod StandingLaws

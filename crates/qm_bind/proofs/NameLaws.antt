@@ -18,7 +18,7 @@ pub has-more : (set new names : List (List ℕ)) (x : List ℕ) (is_new : Bool) 
 has-more set new names x is_new h a = λ y. a.names y ∙ ap (λ (b : Bool). b || bytes_eq y x) (h y) ∙ sym (one names x y)
 
 -- items up to one and from it on
-upto : {X : Type 0} (xs : List X) (i : ℕ) (x : X) → i < length xs → x ≡ get_or xs i x → take (i + 1) xs ≡ take i xs ++ x ∷ []
+pub upto : {X : Type 0} (xs : List X) (i : ℕ) (x : X) → i < length xs → x ≡ get_or xs i x → take (i + 1) xs ≡ take i xs ++ x ∷ []
 upto {X} xs i x l at = take_more xs i x l ∙ ap (λ (z : X). take i xs ++ z ∷ []) (sym at)
 
 pub from : {X : Type 0} (xs : List X) (i : ℕ) (x : X) → i < length xs → x ≡ get_or xs i x → drop i xs ≡ x ∷ drop (i + 1) xs

@@ -37,3 +37,21 @@ unfolding standing_recipe
 standing-none name o t e s f g =
     ap (λ (x : Option Template). option_or (option_map acting None) (option_map answering x)) (sym g ∙ f)
     ∙ ap (λ (a : Option Act). option_or (option_map acting a) (option_map answering (answer_named name))) (sym s ∙ e)
+
+-- the recipe of a command that acts
+pub standing-by-act : (name : List ℕ) (b : Bool) → b ≡ is_some (act_named name) → b ≡ true → standing_recipe name ≡ option_map acting (act_named name)
+unfolding standing_recipe
+standing-by-act name b e h = by_act (act_named name) (sym e ∙ h)
+  where
+    by_act : (o : Option Act) → is_some o ≡ true → option_or (option_map acting o) (option_map answering (answer_named name)) ≡ option_map acting o
+    by_act None h = absurd cc
+    by_act (Some a) h = refl
+
+-- the recipe of a command that does not
+pub standing-by-answer : (name : List ℕ) (b : Bool) → b ≡ is_some (act_named name) → b ≡ false → standing_recipe name ≡ option_map answering (answer_named name)
+unfolding standing_recipe
+standing-by-answer name b e h = by_act (act_named name) (sym e ∙ h)
+  where
+    by_act : (o : Option Act) → is_some o ≡ false → option_or (option_map acting o) (option_map answering (answer_named name)) ≡ option_map answering (answer_named name)
+    by_act None h = refl
+    by_act (Some a) h = absurd cc

@@ -1,6 +1,7 @@
 pub mod Arguments
 pub mod Bindings
 pub mod Faults
+pub mod Goodness
 pub mod Grammar
 pub mod Parts
 pub mod Recipes

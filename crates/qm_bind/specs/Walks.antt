@@ -26,6 +26,8 @@ use Rattle.qm_bind.specs.Recipes.{recipe_of}
 use Rattle.qm_bind.specs.declared.values.Pair.{Pair as SeenPair}
 use Rattle.qm_bind.specs.Recipes.{Pair}
 use Rattle.qm_bind.specs.declared.scope.Names.{Names}
+use Rattle.qm_bind.specs.declared.file_recipes.Known.{Known}
+use Rattle.qm_bind.specs.Goodness.{is_file_template, scope_for}
 use Rattle.qm_bind.specs.{Arguments.may_give, Faults.fault, Grammar.Scope, Grammar.each_of, Grammar.simple_template, Grammar.template_of, Grammar.with_name}
 
 -- the fault that is told of
@@ -126,3 +128,13 @@ template_among scope members = None
 abbrev pub layer_template : Scope → Json-F Json Member → Option Template
 layer_template scope (layer.Json-F.Obj members) = template_among scope members
 layer_template scope value = None
+
+-- what the recipe of a command may name
+abbrev pub scope_known : Known → Scope
+scope_known known = scope_for known.schema.now known.binding.now known.arg
+
+abbrev pub is_file_member : Scope → TemplateMember → Bool
+is_file_member scope m = is_file_template scope m.template
+
+abbrev pub template_names : List TemplateMember → List (List ℕ)
+template_names members = map (λ (m : TemplateMember). m.name) members

@@ -3,6 +3,7 @@ ghost use Rattle.qm_json.specs.Cleanness.{IsClean, are_distinct};
 ghost use Rattle.qm_plan.specs.Stores.{names_of as cell_names};
 ghost use Rattle.qm_bind.specs.Bindings.{bind_of, binding_of, bound_of, first_cell, no_memory, recipes_for, unless, unthrottled};
 ghost use Rattle.qm_bind.specs.Faults.{commands_fault, events_fault, fault as fault_by, file_fault, later_fault, member_names};
+ghost use Rattle.qm_bind.specs.Goodness.{IsGoodBinding};
 ghost use Rattle.qm_bind.specs.Parts.{names_of};
 ghost use Rattle.qm_bind.specs.Walks.{seen_outcome, seen_parts, told};
 
@@ -252,6 +253,7 @@ pub fn bind(alloc: Global, schema: &Schema, text: &[u8]) -> Result<Binding, Bind
     ensures value { result ≢ Err no_memory → result ≡ bind_of schema.now text.now }
     ensures cells { IfOk result (λ binding. IsTrue (are_distinct (cell_names binding.cells))) }
     ensures tallies { IfOk result (λ binding. IsTrue (are_distinct binding.tallies)) }
+    ensures good { IfOk result (λ binding. IsGoodBinding schema.now binding) }
 {
     match read(alloc, text) {
         Ok(value) => bind_value(alloc, schema, &value),

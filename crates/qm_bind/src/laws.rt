@@ -8,6 +8,7 @@ ghost use Rattle.qm_bind.specs.declared.binding.Binding.{Binding};
 ghost use Rattle.qm_bind.specs.declared.fault.BindRule.TheVariants as rule;
 ghost use Rattle.qm_bind.specs.Bindings.{bind_of};
 ghost use Rattle.qm_bind.specs.Faults.{fault};
+ghost use Rattle.qm_bind.specs.Goodness.{IsGoodBinding};
 ghost use Rattle.qm_bind.specs.Arguments.{MayHave, may_have};
 
 /// An argument of a name may be given for a type of a schema exactly where the type has a member of
@@ -35,4 +36,11 @@ pub fn memory_is_no_fault()
         bind_of p text ≢ Err (fault rule.Memory name) }
     ensures text { (p : Parts) (text name : List ℕ) →
         bind_of p text ≢ Err (fault (rule.NotJson text_rule.Memory) name) }
+{}
+
+/// What a file is bound to is good for the schema.
+#[tactic(auto, using(crate::proofs::GoodLaws::bound_good))]
+pub fn each_binding_is_good()
+    ensures { (p : Parts) (text : List ℕ) (binding : Binding) →
+        bind_of p text ≡ Ok binding → IsGoodBinding p binding }
 {}

@@ -6,18 +6,29 @@ mod acts;
 mod arguments;
 pub mod binding;
 mod checking;
+mod cleanness;
 mod commands;
 pub mod fault;
+mod file_recipes;
+mod goodness;
 mod laws;
+mod literals;
+mod members;
+mod named;
 mod names;
 mod parts;
 mod recipes;
 mod scope;
 mod standing;
+mod standing_recipes;
 mod templates;
 mod values;
 
 pub use binding::{Binding, RecipeList};
 pub use checking::bind;
 pub use fault::{BindFault, BindRule};
-pub use laws::{each_argument_is_a_member, each_binding_has_distinct_names, memory_is_no_fault};
+pub use goodness::binding_good;
+pub use laws::{
+    each_argument_is_a_member, each_binding_has_distinct_names, each_binding_is_good,
+    memory_is_no_fault,
+};

@@ -67,7 +67,8 @@ fn waiting(value: Option<&Json>) -> Option<Waiting>
     }
 }
 
-fn may_wait(waiting: Waiting, acts: usize) -> bool
+/// Whether a command that waits so may have so many acts.
+pub fn may_wait(waiting: Waiting, acts: usize) -> bool
     ensures { result ≡ may_wait_for waiting acts }
 {
     match waiting {

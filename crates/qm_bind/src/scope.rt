@@ -20,7 +20,7 @@ pub struct Names<'a, 'b> {
 }
 
 /// Whether the type has a member of the name.
-fn has_member(schema: &Schema, type_id: u32, name: &[u8]) -> bool
+pub fn has_member(schema: &Schema, type_id: u32, name: &[u8]) -> bool
     ensures { result ≡ is_named (member_names (kind_of schema.now.kinds type_id)) name.now }
 {
     type_id < schema.types() && schema.find_member(type_id, name).is_some()

@@ -8,7 +8,7 @@ use sqlite_items::Items;
 use std::alloc::Global;
 
 /// What a command asks of a job.
-fn verb(name: &[u8]) -> Option<Verb>
+pub fn verb(name: &[u8]) -> Option<Verb>
     ensures { result ≡ verb_named name.now }
 {
     if name == b"job-cancel".as_slice() {
@@ -53,7 +53,7 @@ fn act(alloc: Global, name: &[u8]) -> Result<Option<Act>, NoMemory>
 }
 
 /// What a query returns.
-fn answer(name: &[u8]) -> Option<Template>
+pub fn answer(name: &[u8]) -> Option<Template>
     ensures { result ≡ answer_named name.now }
 {
     if name == b"query-version".as_slice() {
@@ -104,7 +104,8 @@ pub fn standing(alloc: Global, name: &[u8]) -> Result<Option<Recipe>, NoMemory>
     }
 }
 
-fn acts(name: &[u8]) -> bool
+/// Whether the command of the name acts.
+pub fn acts(name: &[u8]) -> bool
     ensures { result ≡ is_some (act_named name.now) }
 {
     name == b"qmp_capabilities".as_slice() || name == b"quit".as_slice() || verb(name).is_some()

@@ -1,6 +1,7 @@
 use Rattle.std.proofs.Common.{◌≡◌, ◌∙◌, Err, ap}
 use Rattle.qm_read.specs.declared.fault.JsonFault.{TheVariants.Memory}
 use Rattle.qm_bind.proofs.BoundLaws.{result-cells, result-tallies}
+use Rattle.qm_bind.proofs.GoodLaws.{result-good}
 use Rattle.qm_bind.proofs.OutcomeLaws.{of-fault, of-value}
 use Rattle.qm_bind.proofs.checking.bind.Goals as goal
 
@@ -17,3 +18,6 @@ returns-in-Ok-clause-cells c = result-cells c.args.schema.now c.args.text.now c.
 
 pub returns-in-Ok-clause-tallies : goal.returns-in-Ok-clause-tallies
 returns-in-Ok-clause-tallies c = result-tallies c.args.schema.now c.args.text.now c.bind_value.result (λ h. c.bind_value.ensures h ∙ of-value c.args.schema.now c.args.text.now c.in-Ok.value (c.in-Ok.ensures.value (λ e. cc)))
+
+pub returns-in-Ok-clause-good : goal.returns-in-Ok-clause-good
+returns-in-Ok-clause-good c = result-good c.args.schema.now c.args.text.now c.bind_value.result (λ h. c.bind_value.ensures h ∙ of-value c.args.schema.now c.args.text.now c.in-Ok.value (c.in-Ok.ensures.value (λ e. cc)))
