@@ -139,6 +139,12 @@ fn fed_more(
     }
 }
 
+/// Gives a value up where memory is wanting.
+fn given_up<T: Drop>(value: T) -> NoMemory {
+    let _value = value;
+    NoMemory
+}
+
 /// The turn that ends with this monitor, these bytes and this stop.
 fn turned(monitor: Monitor, feeder: Option<Feeder>, stop: Option<Stop>) -> Turn
     requires { IsFedBy monitor.journal feeder }
@@ -157,9 +163,13 @@ fn open_first(alloc: Global, monitor: Monitor) -> Result<Turn, NoMemory>
     ensures { IfOk result (OpenTurns (playing monitor None)) }
 {
     let mut monitor = monitor;
-    let stop = stop_told(monitor.open(alloc).err())?;
-    let feeder = first_fed(alloc, stop)?;
-    Ok(turned(monitor, feeder, stop))
+    match stop_told(monitor.open(alloc).err()) {
+        Ok(stop) => match first_fed(alloc, stop) {
+            Ok(feeder) => Ok(turned(monitor, feeder, stop)),
+            Err(NoMemory) => Err(given_up(monitor)),
+        },
+        Err(NoMemory) => Err(given_up(monitor)),
+    }
 }
 
 impl Player {
@@ -241,8 +251,10 @@ impl Player {
     {
         let _session = session;
         let Player { monitor, feeder } = self;
-        let feeder = fed_more(alloc, feeder, bytes, ending)?;
-        Ok(turned(monitor, feeder, None))
+        match fed_more(alloc, feeder, bytes, ending) {
+            Ok(feeder) => Ok(turned(monitor, feeder, None)),
+            Err(NoMemory) => Err(given_up(monitor)),
+        }
     }
 
     fn feed(
@@ -263,8 +275,10 @@ impl Player {
     fn feed_hex(self, alloc: Global, session: u32, text: &[u8]) -> Result<Turn, NoMemory>
         ensures { IfOk result (FedTurns self session (hex_bytes_of text.now)) }
     {
-        let bytes = hex_bytes(alloc, text)?;
-        self.feed(alloc, session, bytes.as_slice(), b"")
+        match hex_bytes(alloc, text) {
+            Ok(bytes) => self.feed(alloc, session, bytes.as_slice(), b""),
+            Err(NoMemory) => Err(given_up(self)),
+        }
     }
 
     fn next_input(&self, session: u32) -> Result<Option<Input>, NoMemory>
@@ -295,8 +309,10 @@ impl Player {
         requires { IsCleanInput input }
         ensures { IfOk result (StepTurns self (step.Admit session input)) }
     {
-        let offer = Offer::of(alloc, input)?;
-        Ok(self.admit_offer(session, offer))
+        match Offer::of(alloc, input) {
+            Ok(offer) => Ok(self.admit_offer(session, offer)),
+            Err(NoMemory) => Err(given_up(self)),
+        }
     }
 
     fn admit_next(self, alloc: Global, session: u32, input: Option<Input>) -> Result<Turn, NoMemory>
@@ -315,8 +331,10 @@ impl Player {
         requires { closed_stop self session ≡ None }
         ensures { IfOk result (AdmitTurns self session) }
     {
-        let input = self.next_input(session)?;
-        self.admit_next(alloc, session, input)
+        match self.next_input(session) {
+            Ok(input) => self.admit_next(alloc, session, input),
+            Err(NoMemory) => Err(given_up(self)),
+        }
     }
 
     fn admit(self, alloc: Global, session: u32) -> Result<Turn, NoMemory>
@@ -352,9 +370,15 @@ impl Player {
             mut monitor,
             feeder,
         } = self;
-        let plan = monitor.planned(alloc)?;
-        let stop = stop_told(monitor.finish(alloc, session, number, plan, moment).err())?;
-        Ok(turned(monitor, feeder, stop))
+        match monitor.planned(alloc) {
+            Ok(plan) => {
+                match stop_told(monitor.finish(alloc, session, number, plan, moment).err()) {
+                    Ok(stop) => Ok(turned(monitor, feeder, stop)),
+                    Err(NoMemory) => Err(given_up((monitor, feeder))),
+                }
+            }
+            Err(NoMemory) => Err(given_up((monitor, feeder))),
+        }
     }
 
     fn finish(self, alloc: Global, moment: u64) -> Result<Turn, NoMemory>

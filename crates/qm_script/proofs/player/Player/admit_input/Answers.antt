@@ -1,4 +1,4 @@
 use Rattle.qm_script.proofs.player.Player.admit_input.Goals as goal
 
-pub returns : goal.returns
-returns c = rw c.in_ok-offer.ensures at c.admit_offer.ensures
+pub returns-in-Ok : goal.returns-in-Ok
+returns-in-Ok c = rw c.in-Ok.ensures at c.admit_offer.ensures
