@@ -5,7 +5,7 @@ ghost use Rattle.qm_core.specs.Worlds.{IsReady};
 ghost use Rattle.qm_script.specs.Endings.{closing_of};
 ghost use Rattle.qm_core.specs.declared.TheConstants.{MOST_ENTRIES, MOST_TEXT};
 ghost use Rattle.qm_script.specs.Lines.{lines_of};
-ghost use Rattle.qm_script.specs.Playing.{played_from, played_of};
+ghost use Rattle.qm_script.specs.Playing.{Ended, played_from, played_of};
 ghost use Rattle.qm_script.specs.Plays.{Plays, sunk};
 ghost use Rattle.qm_script.specs.Kept.{Finishes};
 
@@ -115,6 +115,22 @@ fn replayed(
     run(alloc, player, script)
 }
 
+fn put_finished<S: Sink>(alloc: Global, finished: &Finished, sink: &mut S) -> PlayEnd
+    ensures { (ended : Ended) → Finishes ended finished.now →
+        Plays ended (sunk S.contents S.faults sink.old sink.new) result }
+{
+    match put_transcript(alloc, finished.player.journal(), finished.refused, sink) {
+        Ok(()) => end_of(finished.refused),
+        Err(HistoryFault::SinkFault) => PlayEnd::SinkFault,
+        Err(HistoryFault::Memory) => PlayEnd::Memory,
+    }
+}
+
+/// Lets a value go.
+fn let_go<T: Drop>(value: T) {
+    let _value = value;
+}
+
 /// Plays a script in a world, and puts its transcript into the sink: the text of the journal and
 /// the closing line. `SinkFault` comes exactly where the sink's count of faults rises.
 pub fn play<S: Sink>(
@@ -132,11 +148,9 @@ pub fn play<S: Sink>(
 {
     match replayed(alloc, world, limits, script) {
         Ok(finished) => {
-            match put_transcript(alloc, finished.player.journal(), finished.refused, sink) {
-                Ok(()) => end_of(finished.refused),
-                Err(HistoryFault::SinkFault) => PlayEnd::SinkFault,
-                Err(HistoryFault::Memory) => PlayEnd::Memory,
-            }
+            let end = put_finished(alloc, &finished, sink);
+            let_go(finished);
+            end
         }
         Err(NoMemory) => PlayEnd::Memory,
     }

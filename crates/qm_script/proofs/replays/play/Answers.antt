@@ -1,23 +1,5 @@
-use Rattle.std.proofs.Common.{rules, ap, ◌∙◌, Option, Err}
-use Rattle.qm_history.specs.declared.writing.HistoryFault.{HistoryFault}
-use Rattle.qm_script.specs.{Endings.end_of, Playing.played_of, Plays.sunk}
-use Rattle.qm_script.specs.declared.endings.Refused.{Refused}
-use Rattle.qm_script.proofs.PlayLemmas.{plays_whole, plays_fault}
+use Rattle.qm_script.specs.Playing.{played_of}
 use Rattle.qm_script.proofs.replays.play.Goals as goal
 
-pub returns-in-Ok-put_transcript : goal.returns-in-Ok-put_transcript
-returns-in-Ok-put_transcript g c =
-    let ended = played_of c.args.world c.args.limits c.args.script.now in
-    let fine = c.in-Ok.ensures in
-    plays_whole ended (sunk g.S.Sink.contents g.S.Sink.faults c.args.sink.now c.put_transcript.new.sink) c.end_of.result
-    (c.end_of.ensures ∙ ap (λ (r : Option Refused). end_of r) fine.refused)
-    (rw (c.journal.ensures, fine.journal, fine.refused) at c.in-Ok-put_transcript.ensures.text)
-    (search (rules, c.in-Ok-put_transcript.ensures.kept))
-
-pub returns-in-Err-SinkFault : goal.returns-in-Err-SinkFault
-returns-in-Err-SinkFault g c =
-    let ended = played_of c.args.world c.args.limits c.args.script.now in
-    let fine = c.in-Ok.ensures in
-    plays_fault ended (sunk g.S.Sink.contents g.S.Sink.faults c.args.sink.now c.put_transcript.new.sink)
-    (rw (c.journal.ensures, fine.journal, fine.refused) at c.in-Err-SinkFault.ensures.text)
-    (c.in-Err-SinkFault.ensures.failed (ap (λ (f : HistoryFault). Err f) c.in-Err-SinkFault.field-0-is))
+pub returns-in-Ok : goal.returns-in-Ok
+returns-in-Ok g c = c.put_finished.ensures (played_of c.args.world c.args.limits c.args.script.now) c.in-Ok.ensures
