@@ -49,7 +49,8 @@ pub(crate) fn admit(alloc: Global, monitor: &mut Monitor, input: Input) -> Resul
 
 fn start_and_finish(alloc: Global, monitor: &mut Monitor, moment: u64) -> Result<(), Fail> {
     let started = monitor.start()?;
-    monitor.finish(alloc, started.session, started.number, moment)?;
+    let plan = monitor.planned(alloc)?;
+    monitor.finish(alloc, started.session, started.number, plan, moment)?;
     Ok(())
 }
 

@@ -1,5 +1,7 @@
 //! Requests of one session whose commands a schema defines, and their replies.
 
+ghost use Rattle.qm_core.specs.Worlds.{IsReady};
+
 use crate::worlds::world_of;
 use qm_base::CallList;
 use qm_core::{Limits, World};
@@ -158,7 +160,9 @@ fn transcript(rt: &impl AllocGlobal) -> Result<String, Fail> {
 }
 
 /// Plays the script to its end.
-fn played(alloc: Global, world: World, script: &str) -> Result<MemorySink, Fail> {
+fn played(alloc: Global, world: World, script: &str) -> Result<MemorySink, Fail>
+    requires { IsReady world }
+{
     let limits = Limits {
         entries: 1000,
         text: 1_000_000,
