@@ -8,6 +8,7 @@ import bindings as B
 CONSTANT = 12
 BIGGEST = 2 ** 32 - 1
 SHAPES = [[], {}, '', None, True, 7, A.Number('1.5'), ['x'], {'x': {}}]
+CONST = {'const': 1}
 FAILS = ['no', '', "it's so", 'a "b" \\ é𝄞\u007f', '\u0000\n\t\b', "Tally 't' is full"]
 # Bytes that break a text, or not, where they are put in.
 PIECES = [b'\\ud800', b'\\ud834\\udd1e', b'\\udd1e', b'\\ud800\\n', b'\\x', b'\\', b"\\'", b'\\u12', b'\\u00e9',
@@ -82,9 +83,9 @@ class BindFiles:
         returned, out = self.table.returned(command), {}
         if self.p(0.7):
             out['acts'] = [self.act() for _ in range(self.r.randrange(5))]
-        if self.p(0.3 if returned == A.EMPTY else 0.9):
+        if self.p(0.4 if returned == A.EMPTY else 0.9):
             self.cells_left = 3
-            out['return'] = self.template(returned)
+            out['return'] = self.template(A.ANY if returned == A.EMPTY and self.p(0.3) else returned)
         if not out.get('acts') and self.p(0.3):
             out['wait'] = self.r.choice(['hold', 'free'])
         return shuffled(self.r, out)
@@ -109,7 +110,7 @@ class BindFiles:
             type_ = A.ANY
         if self.table.sort(type_) == 'alternate' and self.p(0.7) and self.table.alternatives(type_):
             return self.template(self.r.choice(self.table.alternatives(type_)), depth)
-        ways = [self.arg, self.arg, self.args, self.cell, self.tally, self.object, self.array]
+        ways = [self.arg] * 4 + [self.args, self.cell, self.tally, self.object, self.array]
         if self.p(0.15):
             ways.append(self.const)
         self.r.shuffle(ways)
@@ -225,7 +226,8 @@ class Faults:
     def of_part_shape(self, holder):
         name = self.r.choice(list(B.SHAPES))
         other = [it for it in SHAPES if not isinstance(it, B.SHAPES[name])]
-        self.put_in(holder[0], name, self.r.choice(other + [['t', 7]] if name == 'tallies' else other))
+        listed = [['t', 7], [None], ['t', ['t']]] if name == 'tallies' else []
+        self.put_in(holder[0], name, self.r.choice(other + listed * 3))
 
     def of_tally_twice(self, holder):
         tallies = holder[0].setdefault('tallies', [])
@@ -264,52 +266,79 @@ class Faults:
             words = ['hold', 'free', 'hold', 'free', 'Hold', 'none', '', True, None, 7, ['hold'], {}]
             self.put_in(within[name], 'wait', self.r.choice(words))
 
-    def of_act(self, holder):
-        """An act in place of another, or beside it."""
+    def put_act(self, holder, *acts):
+        """Puts one of the acts into a recipe."""
         for within, name in self.r.sample(self.recipes(holder), 1) if self.recipes(holder) else ():
-            acts = within[name].setdefault('acts', [])
-            if isinstance(acts, list):
-                acts.insert(self.r.randrange(len(acts) + 1), copy.deepcopy(self.r.choice(self.odd_acts(holder))))
+            there = within[name].setdefault('acts', [])
+            if isinstance(there, list):
+                there.insert(self.r.randrange(len(there) + 1), copy.deepcopy(self.r.choice(acts)))
 
-    def odd_acts(self, holder):
-        cells, tallies = list(holder[0].get('cells', {})), holder[0].get('tallies', [])
-        cell, tally, const = self.r.choice(cells or ['x']), self.r.choice(tallies or ['x']), {'const': 1}
-        count = self.r.choice([0, -1, -2 ** 63, 2 ** 32, 2 ** 63, A.Number('1.0'), A.Number('1e0'),
-                               '1', True, None, [1], const])
+    def cell(self, holder):
+        return self.r.choice(list(holder[0].get('cells', {})) or ['x'])
+
+    def tally(self, holder):
+        return self.r.choice(holder[0].get('tallies', []) or ['x'])
+
+    def of_set(self, holder):
+        cell, tally, to = self.cell(holder), self.tally(holder), CONST
+        self.put_act(holder, {'set': cell}, {'to': to}, {'set': cell, 'to': to, 'x': 1}, {'set': 'nope', 'to': to},
+                     {'set': cell, 'to': to, 'by': 1}, {'set': cell, 'to': to, 'fail': 'x'}, {'set': cell, 'by': 1},
+                     {'set': tally, 'to': to}, {'set': 7, 'to': to}, {'set': cell, 'to': 7}, {'set': cell, 'to': {}},
+                     {'set': [cell], 'to': to}, {'Set': cell, 'to': to})
+
+    def of_add(self, holder):
+        cell, tally = self.cell(holder), self.tally(holder)
+        self.put_act(holder, {'add': tally}, {'by': 1}, {'add': tally, 'by': 1, 'x': 1}, {'add': cell, 'by': 1},
+                     {'add': tally, 'by': 1, 'fail': 'x'}, {'add': tally, 'by': 1, 'set': cell, 'to': CONST},
+                     {'add': 'nope', 'by': 1}, {'add': None, 'by': 1}, {'add': [tally], 'by': 1},
+                     {'add': tally, 'to': CONST})
+
+    def of_count(self, holder):
+        counts = [0, -1, -2 ** 63, 2 ** 32, 2 ** 63, A.Number('1.0'), A.Number('1e0'), '1', True, None, [1], CONST]
+        self.put_act(holder, {'add': self.tally(holder), 'by': self.r.choice([*counts, 1, BIGGEST])})
+
+    def of_fail(self, holder):
+        self.put_act(holder, {'fail': 7}, {'fail': None}, {'fail': CONST}, {'fail': ['x']}, {'fail': 'x', 'by': 1},
+                     {'fail': 'x', 'x': 1}, {'Fail': 'x'}, {'fail': {}}, {'fail': ''})
+
+    def of_other_act(self, holder):
         event = self.r.choice(self.table.names('event'))
-        return [{}, 'fail', None, [], {'set': cell}, {'to': const}, {'set': cell, 'to': const, 'x': 1},
-                {'set': cell, 'to': const, 'fail': 'x'}, {'set': cell, 'by': 1}, {'set': 'nope', 'to': const},
-                {'set': tally, 'to': const}, {'set': 7, 'to': const}, {'set': cell, 'to': 7},
-                {'set': [cell], 'to': const}, {'add': tally}, {'by': 1}, {'add': tally, 'by': count},
-                {'add': tally, 'by': count}, {'add': tally, 'by': count}, {'add': tally, 'by': 1, 'x': 1},
-                {'add': cell, 'by': 1}, {'add': 'nope', 'by': 1}, {'add': None, 'by': 1},
-                {'add': tally, 'to': const}, {'fail': 7}, {'fail': None}, {'fail': {'const': 'x'}},
-                {'fail': 'x', 'by': 1}, {'fail': ['x']}, {'Fail': 'x'}, {'quit': True}, {'negotiate': True},
-                {'enable': True}, {'raise': event}, {'raise': event, 'data': const}, {'raise': 7},
-                {'start': {'id': {'const': 'j'}, 'units': 1}}, {'start': {}}, {'job-cancel': {'id': const}},
-                {'const': 1}, {'return': const}]
+        self.put_act(holder, {}, 'fail', None, [], CONST, {'return': CONST}, {'quit': True}, {'negotiate': True},
+                     {'enable': True}, {'raise': event}, {'raise': event, 'data': CONST}, {'raise': 7},
+                     {'start': {'id': {'const': 'j'}, 'units': 1}}, {'start': {}}, {'job-cancel': {'id': CONST}})
+
+    def put_template(self, holder, *templates):
+        """One of the templates stands in place of another, or is what a recipe returns."""
+        chosen = copy.deepcopy(self.r.choice(templates))
+        if self.r.random() < 0.6:
+            self.replace(self.templates(holder), [chosen])
+            return
+        for within, name in self.r.sample(self.recipes(holder), 1) if self.recipes(holder) else ():
+            self.put_in(within[name], 'return', chosen)
+
+    def in_arg(self, holder):
+        name = self.r.choice([*self.values.names, 'm0', 'm1', 'm2'])
+        self.put_template(holder, {'arg': name}, {'arg': name}, {'arg': name}, {'arg': name + 'x'}, {'arg': 7},
+                          {'arg': [name]}, {'arg': None}, {'args': False}, {'args': 1}, {'args': None},
+                          {'args': 'true'}, {'args': {}}, {'args': name}, {'args': True, 'arg': name})
+
+    def in_named(self, holder):
+        cell, tally = self.cell(holder), self.tally(holder)
+        self.put_template(holder, {'cell': 'nope'}, {'cell': tally}, {'cell': tally}, {'cell': 7}, {'cell': [cell]},
+                          {'tally': 'nope'}, {'tally': cell}, {'tally': cell}, {'tally': None}, {'tally': [tally]},
+                          {'cell': cell, 'tally': tally})
+
+    def in_inner(self, holder):
+        deep = self.r.choice([{}, 7, {'cell': 'nope'}, {'tally': 'nope'}, {'arg': 'nope'}, {'const': 1, 'x': 1}])
+        for _ in range(self.r.randrange(4)):
+            deep = self.r.choice([{'object': {'a': CONST, 'b': deep}}, {'array': [CONST, deep]}])
+        self.put_template(holder, {'object': []}, {'object': 7}, {'array': {}}, {'array': 7}, {'array': [[]]},
+                          deep, deep, deep, deep, {'object': {'a': CONST}, 'array': [CONST]})
 
     def in_template(self, holder):
-        self.replace(self.templates(holder), self.odd_templates(holder))
-
-    def of_return(self, holder):
-        for within, name in self.r.sample(self.recipes(holder), 1) if self.recipes(holder) else ():
-            self.put_in(within[name], 'return', copy.deepcopy(self.r.choice(self.odd_templates(holder))))
-
-    def odd_templates(self, holder):
-        cell = self.r.choice(list(holder[0].get('cells', {})) or ['x'])
-        tally = self.r.choice(holder[0].get('tallies', []) or ['x'])
-        member, const = self.r.choice(self.values.names), {'const': 1}
-        return [{}, 7, None, 'x', [], [const], {'const': 1, 'arg': member}, {'const': 1, 'x': 1}, {'Const': 1},
-                {'': 1}, {'args': False}, {'args': 1}, {'args': None}, {'args': 'true'}, {'args': {}},
-                {'args': True, 'cell': cell}, {'arg': member}, {'arg': 'm0'}, {'arg': 'm2'}, {'arg': ''}, {'arg': 7},
-                {'arg': [member]}, {'arg': None}, {'cell': 'nope'}, {'cell': tally}, {'cell': 7}, {'cell': [cell]},
-                {'tally': 'nope'}, {'tally': cell}, {'tally': None}, {'tally': [tally]}, {'object': []},
-                {'object': 7}, {'object': {'a': 7}}, {'object': {'a': const, 'b': {}}},
-                {'object': {'a': {'object': {'b': {'cell': 'nope'}}}}}, {'object': {'a': const}, 'array': [const]},
-                {'array': {}}, {'array': 7}, {'array': [7]}, {'array': [[]]}, {'array': [const, {'arg': 'nope'}]},
-                {'array': [{'array': [{'tally': 'nope'}]}]}, {'version': True}, {'commands': True},
-                {'introspection': True}, {'jobs': True}, {'fail': 'x'}]
+        self.put_template(holder, {}, 7, None, 'x', [], [CONST], {'const': 1, 'arg': 'm0'}, {'const': 1, 'x': 1},
+                          {'Const': 1}, {'': 1}, {'version': True}, {'commands': True}, {'introspection': True},
+                          {'jobs': True}, {'fail': 'x'})
 
     def in_anything(self, holder):
         """One value of the file is another, or changed a little."""
