@@ -181,9 +181,9 @@ class Faults:
         return holder[0], names
 
     def put_in(self, value, name, it):
-        """Puts a member anywhere into an object."""
+        """Puts a member anywhere into an object, with a copy of the value."""
         items = [pair for pair in value.items() if pair[0] != name]
-        items.insert(self.r.randrange(len(items) + 1), (name, it))
+        items.insert(self.r.randrange(len(items) + 1), (name, copy.deepcopy(it)))
         value.clear()
         value.update(items)
 
@@ -217,7 +217,7 @@ class Faults:
         return self.r.choice([{}, {'return': {'args': True}}, {'acts': []}, {'acts': 7}, 7, None, []])
 
     def of_file_shape(self, holder):
-        holder[0] = self.r.choice([it for it in SHAPES if it != {}] + [[holder[0]]])
+        holder[0] = copy.deepcopy(self.r.choice([it for it in SHAPES if it != {}] + [[holder[0]]]))
 
     def of_file_member(self, holder):
         name = self.r.choice(['cell', 'Cells', '', 'jobs', 'acts', 'return', 'commands ', 'é'])
@@ -294,8 +294,10 @@ class Faults:
                      {'add': tally, 'to': CONST})
 
     def of_count(self, holder):
-        counts = [0, -1, -2 ** 63, 2 ** 32, 2 ** 63, A.Number('1.0'), A.Number('1e0'), '1', True, None, [1], CONST]
-        self.put_act(holder, {'add': self.tally(holder), 'by': self.r.choice([*counts, 1, BIGGEST])})
+        if not holder[0].get('tallies'):
+            self.put_in(holder[0], 'tallies', ['count'])
+        counts = [0, BIGGEST + 1] * 3 + [1, BIGGEST, True, -1, -2 ** 63, 2 ** 63, A.Number('1.0'), A.Number('1e0')]
+        self.put_act(holder, {'add': self.tally(holder), 'by': self.r.choice([*counts, '1', None, [1], CONST])})
 
     def of_fail(self, holder):
         self.put_act(holder, {'fail': 7}, {'fail': None}, {'fail': CONST}, {'fail': ['x']}, {'fail': 'x', 'by': 1},
