@@ -2,7 +2,7 @@ use Rattle.std.proofs.Common.{rules, ◌≡◌, subst, ℕ, List, Option, Some, 
 use Rattle.qapi_load.specs.Files.{NamedText}
 use Rattle.qapi_types.specs.declared.parts.Parts.{Parts}
 use Rattle.qapi_check.specs.{Checking.SchemaFrom, declared.loading.SchemaFault.SchemaFault}
-use Rattle.qm_offline.specs.{Loading.LoadedFrom, declared.refusal.Refusal.Refusal}
+use Rattle.qm_offline.specs.{Loading.BoundFrom, Loading.LoadedFrom, declared.refusal.Refusal.Refusal}
 use Rattle.qm_offline.proofs.Refusing.{accepted_from, memory_from, refused_from}
 use Rattle.qm_offline.proofs.loading.load_words.Goals as goal
 
@@ -15,12 +15,11 @@ pub returns-in_default-clause-given : goal.returns-in_default-clause-given
 returns-in_default-clause-given g c = memory_from _ _
 
 pub returns-in-Ok-load_schema-clause-given : goal.returns-in-Ok-load_schema-clause-given
-returns-in-Ok-load_schema-clause-given g c = memory_from _ _
-
-pub returns-in-Ok-over_schema-clause-given : goal.returns-in-Ok-over_schema-clause-given
-returns-in-Ok-over_schema-clause-given g c =
-    accepted_from _ c.args.words.now c.in-Ok-load_schema.schema c.in-Ok-over_schema.loaded
-    (same_schema _ _ _ _ _ _ (search rules) (search rules) c.in-Ok-load_schema.ensures.given) c.in-Ok-over_schema.ensures.value
+returns-in-Ok-load_schema-clause-given g c =
+    let parts = c.in-Ok-load_schema.schema in
+    let bound = subst (λ (t : Option (List NamedText)). BoundFrom t c.args.words.now parts c.over_schema.result) (search rules) c.over_schema.ensures.given in
+    accepted_from (g.L.Library.files c.args.library.now) c.args.words.now parts c.over_schema.result
+    (same_schema _ _ _ _ _ _ (search rules) (search rules) c.in-Ok-load_schema.ensures.given) bound
 
 pub returns-clause-given : goal.returns-clause-given
 returns-clause-given g c =
