@@ -11,9 +11,9 @@ use Rattle.qapi_check.specs.declared.loading.{SchemaFault.SchemaFault, SchemaFau
 use Rattle.qm_bind.specs.declared.fault.{BindFault.BindFault, BindRule.BindRule}
 use Rattle.qm_bind.specs.declared.fault.BindRule.TheVariants as bind
 use Rattle.qm_core.specs.declared.world.World.{World}
-use Rattle.qm_offline.specs.{Answers.Ran, Answers.Ends, Answers.Answers, Causes.MayLoad}
+use Rattle.qm_offline.specs.{Answers.Ran, Answers.Ends, Answers.Answers}
 use Rattle.qm_offline.specs.Loading.{BoundFrom, HasCause, IsAnswer, IsLoaded, LoadedFrom, loaded_of, loaded_over, world_in}
-use Rattle.qm_offline.specs.Output.{FileFault, InBind, InSchema, NoBind, bind_name, bind_over, bind_text, fault_line, file_fault_output, limits_of, output_over, refusal_output, schema_of, world_output, world_over}
+use Rattle.qm_offline.specs.Output.{FileFault, InBind, InSchema, NoBind, bind_name, bind_over, bind_text, fault_line, file_fault_output, limits_of, output_over, refusal_output, world_output, world_over}
 use Rattle.qm_offline.specs.{Refusals.bind_refusal, Refusals.check_refusal, Refusals.file_refusal, Refusals.load_refusal, Refusals.refusal_of, Words.Words, Words.names_defined}
 use Rattle.qm_offline.specs.declared.{loading.Loaded.Loaded, refusal.Refusal.Refusal}
 use Rattle.qm_offline.specs.declared.refusal.Refusal.TheVariants as refusal

@@ -1,5 +1,5 @@
 -- The answer of a run from that of its part.
-use Rattle.std.proofs.Common.{codes, ◌≡◌, ◌≢◌, ℕ, ◌==◌, Bool, true, false, cond, List, [], ◌∷◌, ◌++◌, ◌⊎◌, Option, Some, None, option_map, unwrap_or, Result, Ok, Err, refl, ap, sym, ◌∙◌, subst, append-nil, inl, inr}
+use Rattle.std.proofs.Common.{◌≡◌, ◌≢◌, ℕ, ◌==◌, Bool, true, false, cond, List, [], ◌∷◌, ◌++◌, ◌⊎◌, Option, Some, None, option_map, unwrap_or, Result, Ok, Err, refl, ap, sym, ◌∙◌, subst, append-nil, inl, inr}
 use Rattle.std.specs.{Str.bytes_eq}
 use Rattle.std.proofs.lemmas.Slice.Eq.{bytes_eq-Decides}
 use Rattle.qm_base.specs.{Faults.Rose, Faults.told_more, Faults.HoldsPart, Prefixes.IsPrefix}
@@ -18,7 +18,7 @@ use Rattle.qm_offline.specs.Causes.{is_full, needs_script, Loads, Refuses, Unbou
 use Rattle.qm_offline.specs.Output.{Output, Outside, FileFault, InBind, InSchema, NoBind, bind_text, output_over, world_for, world_output, command_output, replay_output, end_status_of, introspection_line, limits_of, ok_line, play_of, play_from, play_over, journal_for, schema_of, cannot_read}
 use Rattle.qapi_check.specs.{Checking.table_of, declared.loading.SchemaFault.SchemaFault}
 use Rattle.qm_offline.specs.declared.loading.Command.{Command, TheVariants.Check, TheVariants.Introspect, TheVariants.Replay}
-use Rattle.qm_offline.specs.{Loading.IsLoaded, Loading.world_in, Words.Words}
+use Rattle.qm_offline.specs.{Loading.IsLoaded, Words.Words}
 use Rattle.qm_offline.specs.declared.loading.Loaded.{Loaded}
 use Rattle.qm_core.specs.declared.{monitor.Limits.Limits, world.World.World}
 use Rattle.qm_script.specs.Playing.{played_of}
