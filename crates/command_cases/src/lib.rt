@@ -5,8 +5,6 @@
 #[cfg(test)]
 mod files;
 #[cfg(test)]
-mod goodness;
-#[cfg(test)]
 mod plans;
 #[cfg(test)]
 mod schema;
