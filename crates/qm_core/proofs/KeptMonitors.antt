@@ -19,11 +19,11 @@ use Rattle.qm_core.specs.Texts.{entry_text_of}
 use Rattle.qm_core.proofs.{Journals.legal-append, Journals.past_of-append, KeptSessions.kept-admit, KeptSessions.kept-done, KeptSessions.kept-open, KeptSessions.none_waits, Texts.text_more}
 
 -- the fields after one more entry are sound
-pub after_entry : (m : Fields) (e : Entry) (journal : Reserved Entry) (bytes : ℕ) (session : Session) (running : Option Request) (moment : ℕ) (store : Contents) → IsSound m →
+pub after_entry : (m : Fields) (e : Entry) (journal : Reserved Entry) (bytes : ℕ) (session : Session) (running : Option Request) (command : Option ℕ) (moment : ℕ) (store : Contents) → IsSound m →
     MayFollow (past_of m.journal.items) e → IsAnswer m.world (past_of m.journal.items) e → IsPlaced (view_of m) e bytes → journal ≡ record m.journal { items = m.journal.items ++ e ∷ [] } →
-    IsSession (e ∷ past_of m.journal.items) session → IsRunning (e ∷ past_of m.journal.items) running → moment ≡ last_moment_of (e ∷ past_of m.journal.items) → store ≡ store_of m.world (e ∷ past_of m.journal.items) →
-    IsSound record { world = m.world; limits = m.limits; journal = journal; session = session; running = running; last_moment = moment; store = store }
-after_entry m e journal bytes session running moment store sound may answer placed added kept runs last held =
+    IsSession (e ∷ past_of m.journal.items) session → IsRunning m.world (e ∷ past_of m.journal.items) running command → moment ≡ last_moment_of (e ∷ past_of m.journal.items) → store ≡ store_of m.world (e ∷ past_of m.journal.items) →
+    IsSound record { world = m.world; limits = m.limits; journal = journal; session = session; running = running; command = command; last_moment = moment; store = store }
+after_entry m e journal bytes session running command moment store sound may answer placed added kept runs last held =
     let next = past_of-append m.journal.items e in
     let more = text_more m.journal.items e in
     let one = length-append m.journal.items (e ∷ []) in
@@ -52,6 +52,7 @@ pub sound-admit : (m : Fields) (journal : Reserved Entry) (s bytes : ℕ) (input
         waiting = Some record { session = s; number = m.session.admitted + 1; mode = m.session.mode; input = waiting };
       };
       running = m.running;
+      command = m.command;
       last_moment = m.last_moment;
       store = m.store;
     }
@@ -59,7 +60,7 @@ sound-admit m journal s bytes input waiting sound first more below clean same pl
     let past = past_of m.journal.items in
     let one = first.first in
     let number : admitted_of s past ≡ m.session.admitted = rw one (sym sound.session.admitted) in
-    rw (same, one) (after_entry m (Admit 1 (m.session.admitted + 1) InBand input) journal bytes _ m.running m.last_moment m.store sound
+    rw (same, one) (after_entry m (Admit 1 (m.session.admitted + 1) InBand input) journal bytes _ m.running m.command m.last_moment m.store sound
     record {
       is_open = rw one at first.is_open;
       more = rw one at more;
@@ -68,7 +69,7 @@ sound-admit m journal s bytes input waiting sound first more below clean same pl
       below = rw one at below;
       clean = clean;
     }
-    tt (rw (number, one) at placed) (rw one at added) (kept-admit past m.session input (rw one at first) (none_waits 1 past (rw one at below)) sound.session) record { request = sound.running.request; of_first = sound.running.of_first } sound.moment sound.store)
+    tt (rw (number, one) at placed) (rw one at added) (kept-admit past m.session input (rw one at first) (none_waits 1 past (rw one at below)) sound.session) record { request = sound.running.request; of_first = sound.running.of_first; command = sound.running.command; known = sound.running.known } sound.moment sound.store)
 
 pub sound-done : (m : Fields) (journal : Reserved Entry) (s k bytes : ℕ) (request : Request) (plan : Option Plan) (reply : Json) (line : List ℕ) (moment last : ℕ) (commands : Bool) (session : Session) (store : Contents) → IsSound m →
     running_of (past_of m.journal.items) ≡ Some request → request.session ≡ s → request.number ≡ k → s ≡ 1 → plan ≡ planned_of m.world (running_of (past_of m.journal.items)) →
@@ -77,19 +78,19 @@ pub sound-done : (m : Fields) (journal : Reserved Entry) (s k bytes : ℕ) (requ
     IsPlaced (view_of m) (Done s k plan reply last) bytes →
     session ≡ answered m.session line commands →
     journal ≡ record m.journal { items = m.journal.items ++ Done s k plan reply last ∷ [] } →
-    IsSound record { world = m.world; limits = m.limits; journal = journal; session = session; running = None; last_moment = last; store = store }
+    IsSound record { world = m.world; limits = m.limits; journal = journal; session = session; running = None; command = None; last_moment = last; store = store }
 sound-done m journal s k bytes request plan reply line moment last commands session store sound runs named numbered one planned answer printing change greatest small held placed said added =
     let past = past_of m.journal.items in
     let later : last_moment_of past ≤ last = omega (arith, sound.moment, greatest) in
     let again : last ≡ max last (last_moment_of past) = omega (arith, later) in
     let opens : commands ≡ (negotiates (running_of past) && is_return (reply_to m.world m.store request)) = rw runs change in
-    rw (said, printing) (after_entry m (Done 1 k plan (reply_to m.world m.store request) last) journal bytes _ None last store sound
+    rw (said, printing) (after_entry m (Done 1 k plan (reply_to m.world m.store request) last) journal bytes _ None None last store sound
     record {
       running = rw runs (ap (λ (q : RequestName). Some q) (rw (named, numbered, one) refl));
       later = later;
       below = small;
     }
-    record { planned = planned; answer = rw (runs, ← sound.store) refl } (rw (answer, one) at placed) (rw (answer, one) at added) (kept-done past m.session k plan (reply_to m.world m.store request) last commands sound.legal.ordered sound.session opens) record { request = refl; of_first = tt } again (rw (← sound.store) held))
+    record { planned = planned; answer = rw (runs, ← sound.store) refl } (rw (answer, one) at placed) (rw (answer, one) at added) (kept-done past m.session k plan (reply_to m.world m.store request) last commands sound.legal.ordered sound.session opens) record { request = refl; of_first = tt; command = refl; known = tt } again (rw (← sound.store) held))
 
 not_run : (runs : Bool) (full fault : Option StepFault) → fault ≡ (if runs then None else Some NotRunning) → is_some fault ≡ true →
     fault ≡ (if runs then full else Some NotRunning)
@@ -135,11 +136,11 @@ next-done m journal s k request plan reply moment last sound told runs planned a
 pub sound-open : (m : Fields) (journal : Reserved Entry) (bytes : ℕ) (line : List ℕ) → IsSound m → sessions_of (past_of m.journal.items) ≡ [] →
     line ≡ printed greeting_value → IsPlaced (view_of m) (Open 1) bytes →
     journal ≡ record m.journal { items = m.journal.items ++ Open 1 ∷ [] } →
-    IsSound record { world = m.world; limits = m.limits; journal = journal; session = record (sent m.session line) { opened = true }; running = m.running; last_moment = m.last_moment; store = m.store }
+    IsSound record { world = m.world; limits = m.limits; journal = journal; session = record (sent m.session line) { opened = true }; running = m.running; command = m.command; last_moment = m.last_moment; store = m.store }
 sound-open m journal bytes line sound none greeting placed added =
-    rw greeting (after_entry m (Open 1) journal bytes _ m.running m.last_moment m.store sound
+    rw greeting (after_entry m (Open 1) journal bytes _ m.running m.command m.last_moment m.store sound
     record { next = rw none refl; few = omega arith }
-    tt placed added (kept-open (past_of m.journal.items) m.session sound.legal.ordered none sound.session) record { request = sound.running.request; of_first = sound.running.of_first } sound.moment sound.store)
+    tt placed added (kept-open (past_of m.journal.items) m.session sound.legal.ordered none sound.session) record { request = sound.running.request; of_first = sound.running.of_first; command = sound.running.command; known = sound.running.known } sound.moment sound.store)
 
 -- a drop has kept its place
 pub drop-place : (m : Fields) (s bytes : ℕ) (cause : Cause) → IsSound m → IsFirstOpen (past_of m.journal.items) s →

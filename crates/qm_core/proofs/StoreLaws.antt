@@ -1,12 +1,12 @@
 -- A reply changes the store exactly where it is no error.
-use Rattle.std.proofs.Common.{◌≡◌, ℕ, true, false, List, ◌∷◌, codes, Option, Some, None, Result, Ok, Err, refl, ap, ◌∙◌}
+use Rattle.std.proofs.Common.{◌≡◌, ℕ, true, false, List, ◌∷◌, codes, Option, Some, None, option_map, Result, Ok, Err, refl, ap, ◌∙◌}
 use Rattle.qm_json.specs.declared.value.Json.TheViews.{outs-Obj}
 use Rattle.qm_json.specs.{Members.has_name, Members.layer_members, Members.member_of, Members.members_of, declared.value.Json.Json, declared.value.Json.TheVariants.Obj, declared.value.Member.Member}
 use Rattle.std.specs.Bool.{if◌then◌else◌}
 use Rattle.qm_plan.specs.{Applying.Outcome, Applying.applied_of, Stores.Contents, declared.applied.ApplyFault.ApplyFault}
-use Rattle.qm_core.specs.{Effects.Effect, Effects.effect_of, Effects.facts_of, Planned.plan_for, Planned.planned_by, Planned.planned_for, Replies.effect_member, Replies.id_of, Replies.id_members, Replies.is_return, Replies.outcome_of, Replies.reply_to, State.stored, State.effect_store, State.verdict_store, State.left_by, Verdicts.verdict_of}
+use Rattle.qm_core.specs.{Effects.Effect, Effects.effect_of, Effects.facts_of, Planned.command_by, Planned.command_for, Planned.plan_for, Planned.planned_for, Replies.effect_member, Replies.id_of, Replies.id_members, Replies.is_return, Replies.outcome_of, Replies.reply_to, State.stored, State.effect_store, State.verdict_store, State.left_by, Verdicts.verdict_of}
 use Rattle.qm_core.specs.declared.{inputs.Input.Input, inputs.Input.TheVariants.Doc, inputs.Input.TheVariants.Bad, requests.Request.Request, world.World.World}
-use Rattle.qm_core.specs.declared.verdicts.Verdict.{Verdict, TheVariants.Refused, TheVariants.Run}
+use Rattle.qm_core.specs.Verdicts.{Verdict, Refused, Run}
 
 -- the members of an object are these
 members_back : (members : List Member) → members_of (Obj members) ≡ members
@@ -33,7 +33,7 @@ ids_are_no_return (Doc value) = id_is_no_return (member_of value (codes "id"))
 ids_are_no_return (Bad bad) = refl
 
 told_by_verdict : (world : World) (store : Contents) (request : Request) (verdict : Verdict) (ids : List Member) → has_name ids (codes "return") ≡ false →
-    stored world store (planned_by world request verdict) (Obj (outcome_of world store request verdict ∷ ids)) ≡ verdict_store world store request verdict
+    stored world store (option_map (plan_for world request) (command_by verdict)) (Obj (outcome_of world store request verdict ∷ ids)) ≡ verdict_store world store request verdict
 told_by_verdict world store request (Refused refusal) ids none = refl
 told_by_verdict world store request (Run command) ids none =
     let plan = plan_for world request command in
@@ -44,3 +44,11 @@ pub stored_by_verdict : (world : World) (store : Contents) (request : Request) �
     stored world store (planned_for world request) (reply_to world store request) ≡ verdict_store world store request (verdict_of world request.mode request.input)
 stored_by_verdict world store request =
     told_by_verdict world store request (verdict_of world request.mode request.input) (id_of request.input) (ids_are_no_return request.input)
+
+run_by : (verdict : Verdict) (command : ℕ) → Some command ≡ command_by verdict → Run command ≡ verdict
+run_by (Refused refusal) command told = absurd cc
+run_by (Run c) command told = (let same : command ≡ c = cc in ap Run same)
+
+-- the verdict on a request whose command takes effect
+pub run_by_command : (world : World) (request : Request) (command : ℕ) → Some command ≡ command_for world request → Run command ≡ verdict_of world request.mode request.input
+run_by_command world request = run_by (verdict_of world request.mode request.input)

@@ -1,5 +1,5 @@
 -- What an input says (QMP specification, "Issuing Commands").
-use Rattle.std.specs.Prelude.{ℕ, Bool, ◌||◌, List, codes, Option, None, find}
+use Rattle.std.specs.Prelude.{ℕ, Bool, ◌||◌, List, codes, Option, Some, None, find}
 use Rattle.std.specs.{Option.option_and_then, Str.bytes_eq}
 use Rattle.qm_json.specs.declared.value.{Json.Json, Member.Member}
 use Rattle.qm_json.specs.{Members.members_of, Members.member_of, Cleanness.IsClean}
@@ -27,6 +27,11 @@ arguments_of value = member_of value (codes "arguments")
 abbrev pub command_of : Input → Option (List ℕ)
 command_of (Doc value) = command_name_of value
 command_of (Bad bad) = None
+
+-- the value that came, where one did
+abbrev pub document_of : Input → Option Json
+document_of (Doc value) = Some value
+document_of (Bad bad) = None
 
 abbrev pub arguments_in : Input → Option Json
 arguments_in (Doc value) = arguments_of value

@@ -1,12 +1,12 @@
 -- What the fields of a monitor keep of its journal (this project's own rule). One session is opened at
 -- most, the first.
-use Rattle.std.specs.Prelude.{◌≡◌, ℕ, ◌+◌, ◌≤◌, nat_le, Bool, false, true, not, if◌then◌else◌, ◌&&◌, ◌||◌, List, [], ◌∷◌, ◌++◌, length, Option, None, IfSome, Result, IfOk}
+use Rattle.std.specs.Prelude.{◌≡◌, ℕ, ◌+◌, ◌≤◌, ◌<◌, nat_le, Bool, false, true, not, if◌then◌else◌, ◌&&◌, ◌||◌, List, [], ◌∷◌, ◌++◌, length, Option, None, IfSome, Result, IfOk}
 use Rattle.std.specs.{Option.option_to_list, Result.result_err}
 use Rattle.qm_caps.specs.declared.mode.Mode.TheVariants.{Command, Negotiating}
 use Rattle.qm_core.specs.{Legal.past_of, Legal.IsLegal, Legal.HasRoom, Legal.IsWithin, Legal.is_within, Next.View, Next.Step, Next.full_refusal, Next.refusal_of}
 use Rattle.qm_core.specs.Standing.{sessions_of, is_open, is_dropped, is_ended, open_count_of, admitted_of, mode_of, waiting_of, running_of, last_moment_of}
-use Rattle.qm_core.specs.{State.store_of, Texts.entry_text_of, Texts.text_of, Transcript.has_overrun, Transcript.untaken_of, Transcript.wire_of}
-use Rattle.qm_core.specs.declared.{TheConstants.MOST_ENTRIES, TheConstants.MOST_TEXT, TheConstants.MOST_UNTAKEN, entries.Entry.Entry, entries.StepFault.StepFault, monitor.Monitor.TheInside.Inside as Fields, requests.Request.Request, sessions.Session.Session}
+use Rattle.qm_core.specs.{Planned.command_in, State.store_of, Texts.entry_text_of, Texts.text_of, Transcript.has_overrun, Transcript.untaken_of, Transcript.wire_of}
+use Rattle.qm_core.specs.declared.{TheConstants.MOST_ENTRIES, TheConstants.MOST_TEXT, TheConstants.MOST_UNTAKEN, entries.Entry.Entry, entries.StepFault.StepFault, monitor.Monitor.TheInside.Inside as Fields, requests.Request.Request, sessions.Session.Session, world.World.World}
 
 abbrev pub view_of : Fields → View
 view_of m = record { world = m.world; limits = m.limits; journal = m.journal.items }
@@ -35,10 +35,12 @@ pub record IsSession (past : List Entry) (session : Session) : Type 0 where
   pub outbox : session.outbox ≡ untaken_of 1 past
   pub overrun : session.overrun ≡ has_overrun 1 past
 
--- what is kept of the running request
-pub record IsRunning (past : List Entry) (running : Option Request) : Type 0 where
+-- what is kept of the running request, and of its command that takes effect
+pub record IsRunning (world : World) (past : List Entry) (running : Option Request) (command : Option ℕ) : Type 0 where
   pub request : running ≡ running_of past
   pub of_first : IsOfFirst running
+  pub command : command ≡ command_in world (running_of past)
+  pub known : IfSome command (λ c. c < length world.schema.commands)
 
 -- the fields are what stands in the journal, which is legal and has its places
 pub record IsSound (m : Fields) : Type 0 where
@@ -48,7 +50,7 @@ pub record IsSound (m : Fields) : Type 0 where
   pub few : m.limits.entries ≤ MOST_ENTRIES
   pub short : m.limits.text ≤ MOST_TEXT
   pub session : IsSession (past_of m.journal.items) m.session
-  pub running : IsRunning (past_of m.journal.items) m.running
+  pub running : IsRunning m.world (past_of m.journal.items) m.running m.command
   pub moment : m.last_moment ≡ last_moment_of (past_of m.journal.items)
   pub store : m.store ≡ store_of m.world (past_of m.journal.items)
 

@@ -1,9 +1,37 @@
--- The plan of a request (this project's own rule).
-use Rattle.std.specs.Prelude.{ℕ, [], Option, Some, None, slice_get, unwrap_or}
+-- The call that a request makes, and its plan (this project's own rule).
+use Rattle.std.specs.Prelude.{ℕ, [], Option, Some, None, option_map, slice_get, unwrap_or}
+use Rattle.std.specs.Option.{option_and_then}
+use Rattle.qm_json.specs.declared.value.Json.{Json}
 use Rattle.qm_plan.specs.{Plans.plan_of, Plans.arguments_of, Plans.no_members, declared.templates.Template.TheVariants.Const}
-use Rattle.qm_plan.specs.declared.recipes.{Plan.Plan, Recipe.Recipe, Waiting.TheVariants.No}
-use Rattle.qm_core.specs.{Inputs.arguments_in, Verdicts.verdict_of, declared.requests.Request.Request, declared.world.World.World}
-use Rattle.qm_core.specs.declared.verdicts.Verdict.{Verdict, TheVariants.Refused, TheVariants.Run}
+use Rattle.qm_plan.specs.declared.{calls.Call.Call, recipes.Plan.Plan, recipes.Recipe.Recipe, recipes.Waiting.TheVariants.No}
+use Rattle.qm_core.specs.{Inputs.arguments_in, Inputs.document_of, Verdicts.Verdict, Verdicts.Refused, Verdicts.Run, Verdicts.verdict_of}
+use Rattle.qm_core.specs.declared.{requests.Request.Request, requests.Started.Started, world.World.World}
+
+-- the command that takes effect by a verdict; none by a refusal
+abbrev pub command_by : Verdict → Option ℕ
+command_by (Refused refusal) = None
+command_by (Run command) = Some command
+
+-- the command of a request that takes effect
+abbrev pub command_for : World → Request → Option ℕ
+command_for world request = command_by (verdict_of world request.mode request.input)
+
+-- the same of a request, where there is one
+abbrev pub command_in : World → Option Request → Option ℕ
+command_in world request = option_and_then (command_for world) request
+
+-- the call of a command by a value
+abbrev pub call_with : Option ℕ → Option Json → Option Call
+call_with (Some command) (Some value) = Some record { command = command; request = value }
+call_with command value = None
+
+-- the call that a request makes; none of a request that is refused
+abbrev pub call_of : World → Request → Option Call
+call_of world request = call_with (command_for world request) (document_of request.input)
+
+-- what is told of a request that is started
+abbrev pub started_of : World → Request → Started
+started_of world request = record { session = request.session; number = request.number; call = call_of world request }
 
 -- a recipe without acts, which returns the empty object
 abbrev pub plain_recipe : Recipe
@@ -17,16 +45,10 @@ recipe_at world command = unwrap_or (slice_get world.binding.recipes command) pl
 abbrev pub plan_for : World → Request → ℕ → Plan
 plan_for world request command = plan_of (recipe_at world command) (arguments_of (arguments_in request.input))
 
--- the plan by the verdict; a request that is refused has none
-abbrev pub planned_by : World → Request → Verdict → Option Plan
-planned_by world request (Refused refusal) = None
-planned_by world request (Run command) = Some (plan_for world request command)
-
--- the plan of a request
+-- the plan of a request; none of one that is refused
 abbrev pub planned_for : World → Request → Option Plan
-planned_for world request = planned_by world request (verdict_of world request.mode request.input)
+planned_for world request = option_map (plan_for world request) (command_for world request)
 
 -- the plan of a request, where there is one
 abbrev pub planned_of : World → Option Request → Option Plan
-planned_of world None = None
-planned_of world (Some request) = planned_for world request
+planned_of world request = option_and_then (planned_for world) request

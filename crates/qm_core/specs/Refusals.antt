@@ -1,12 +1,14 @@
 -- Error replies: their classes (QMP specification, "Error") and descriptions (this project's own rule).
 use Rattle.std.specs.Prelude.{ℕ, List, ◌++◌, codes}
 use Rattle.std.specs.Fmt.{decimal}
+use Rattle.qm_admit.specs.Paths.{printed_path}
 use Rattle.qm_admit.specs.declared.verdict.Fault.{Fault, TheVariants.Missing, TheVariants.Unexpected, TheVariants.WrongKind, TheVariants.OutOfRange, TheVariants.BadEnum, TheVariants.NoAlternative}
 use Rattle.qm_core.specs.declared.inputs.{BadInput.BadInput, FrameWord.FrameWord, FrameWord.TheVariants.LexError, FrameWord.TheVariants.Unbalanced, FrameWord.TheVariants.TooDeep, FrameWord.TheVariants.TooLong, JsonWord.JsonWord}
 use Rattle.qm_core.specs.declared.inputs.BadInput.TheVariants as bad
 use Rattle.qm_core.specs.declared.inputs.JsonWord.TheVariants.{Expected, Duplicate, BadEscape, BadUtf8}
-use Rattle.qm_core.specs.declared.verdicts.{Class.Class, Class.TheVariants.GenericError, Class.TheVariants.CommandNotFound, Refusal.Refusal}
-use Rattle.qm_core.specs.declared.verdicts.Refusal.TheVariants.{BadInput as Malformed, NotAnObject, UnexpectedMember, TwoVerbs, NoVerb, VerbNoString, ArgumentsNoObject, NegotiationExpected, NegotiationComplete, UnknownCommand, Misfit}
+use Rattle.qm_core.specs.{Inputs.arguments_in, declared.inputs.Input.Input, declared.world.World.World}
+use Rattle.qm_core.specs.declared.verdicts.{Class.Class, Class.TheVariants.GenericError, Class.TheVariants.CommandNotFound}
+use Rattle.qm_core.specs.Verdicts.{Refusal, Malformed, NotAnObject, UnexpectedMember, TwoVerbs, NoVerb, VerbNoString, ArgumentsNoObject, NegotiationExpected, NegotiationComplete, UnknownCommand, Misfit}
 
 -- what a message is called that is no message or no value
 abbrev pub frame_desc_of : FrameWord → List ℕ
@@ -34,19 +36,19 @@ misfit_desc_of OutOfRange path = codes "Parameter '" ++ path ++ codes "' is out 
 misfit_desc_of BadEnum path = codes "Parameter '" ++ path ++ codes "' does not accept this value"
 misfit_desc_of NoAlternative path = codes "Parameter '" ++ path ++ codes "' matches no alternative"
 
--- the description of a refusal
-abbrev pub desc_of : Refusal → List ℕ
-desc_of (Malformed what) = bad_desc_of what
-desc_of NotAnObject = codes "QMP input must be a JSON object"
-desc_of (UnexpectedMember name) = codes "QMP input member '" ++ name ++ codes "' is unexpected"
-desc_of TwoVerbs = codes "QMP input has both 'execute' and 'exec-oob'"
-desc_of NoVerb = codes "QMP input lacks member 'execute'"
-desc_of (VerbNoString name) = codes "QMP input member '" ++ name ++ codes "' must be a string"
-desc_of ArgumentsNoObject = codes "QMP input member 'arguments' must be an object"
-desc_of NegotiationExpected = codes "Expecting capabilities negotiation with 'qmp_capabilities'"
-desc_of NegotiationComplete = codes "Capabilities negotiation is already complete, command ignored"
-desc_of (UnknownCommand name) = codes "The command " ++ name ++ codes " has not been found"
-desc_of (Misfit fault path) = misfit_desc_of fault path
+-- the description of a refusal of an input
+abbrev pub desc_of : World → Input → Refusal → List ℕ
+desc_of world input (Malformed what) = bad_desc_of what
+desc_of world input NotAnObject = codes "QMP input must be a JSON object"
+desc_of world input (UnexpectedMember name) = codes "QMP input member '" ++ name ++ codes "' is unexpected"
+desc_of world input TwoVerbs = codes "QMP input has both 'execute' and 'exec-oob'"
+desc_of world input NoVerb = codes "QMP input lacks member 'execute'"
+desc_of world input (VerbNoString name) = codes "QMP input member '" ++ name ++ codes "' must be a string"
+desc_of world input ArgumentsNoObject = codes "QMP input member 'arguments' must be an object"
+desc_of world input NegotiationExpected = codes "Expecting capabilities negotiation with 'qmp_capabilities'"
+desc_of world input NegotiationComplete = codes "Capabilities negotiation is already complete, command ignored"
+desc_of world input (UnknownCommand name) = codes "The command " ++ name ++ codes " has not been found"
+desc_of world input (Misfit fault path) = misfit_desc_of fault (printed_path world.schema.kinds (arguments_in input) path)
 
 -- the class of a refusal
 abbrev pub class_of : Refusal → Class

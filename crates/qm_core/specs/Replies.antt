@@ -4,9 +4,9 @@ use Rattle.qm_json.specs.{declared.value.Json.Json, declared.value.Member.Member
 use Rattle.qm_json.specs.declared.value.Json.TheVariants as json
 use Rattle.qm_caps.specs.Greetings.{named}
 use Rattle.qm_plan.specs.Stores.{Contents}
-use Rattle.qm_core.specs.{Effects.Effect, Effects.effect_of, Planned.plan_for, Refusals.class_of, Refusals.class_name_of, Refusals.desc_of, Verdicts.verdict_of}
+use Rattle.qm_core.specs.{Effects.Effect, Effects.effect_of, Planned.plan_for, Refusals.class_of, Refusals.class_name_of, Refusals.desc_of, Verdicts.Verdict, Verdicts.Refused, Verdicts.Run, Verdicts.verdict_of}
 use Rattle.qm_core.specs.declared.{inputs.Input.Input, inputs.Input.TheVariants.Doc, inputs.Input.TheVariants.Bad, requests.Request.Request, world.World.World}
-use Rattle.qm_core.specs.declared.verdicts.{Class.Class, Class.TheVariants.GenericError, Verdict.Verdict, Verdict.TheVariants.Refused, Verdict.TheVariants.Run}
+use Rattle.qm_core.specs.declared.verdicts.Class.{Class, TheVariants.GenericError}
 
 abbrev pub id_members : Option Json → List Member
 id_members None = []
@@ -27,7 +27,7 @@ effect_member (Err text) = named (codes "error") (error_value GenericError text)
 
 -- the same by the verdict
 abbrev pub outcome_of : World → Contents → Request → Verdict → Member
-outcome_of world store request (Refused refusal) = named (codes "error") (error_value (class_of refusal) (desc_of refusal))
+outcome_of world store request (Refused refusal) = named (codes "error") (error_value (class_of refusal) (desc_of world request.input refusal))
 outcome_of world store request (Run command) = effect_member (effect_of world store command (plan_for world request command))
 
 -- the reply to a request, by its mode at its admission and the store before the reply

@@ -4,7 +4,7 @@ use Rattle.qm_json.specs.declared.value.Json.{Json}
 use Rattle.qm_plan.specs.{Applying.Outcome, Applying.applied_of, Stores.Contents, Stores.first_of}
 use Rattle.qm_plan.specs.declared.{applied.ApplyFault.ApplyFault, recipes.Plan.Plan}
 use Rattle.qm_core.specs.{Effects.Effect, Effects.effect_of, Effects.facts_of, Planned.plan_for, Replies.is_return, declared.entries.Entry.Entry, declared.entries.Entry.TheVariants.Done, declared.requests.Request.Request, declared.world.World.World}
-use Rattle.qm_core.specs.declared.verdicts.Verdict.{Verdict, TheVariants.Refused, TheVariants.Run}
+use Rattle.qm_core.specs.Verdicts.{Verdict, Refused, Run}
 
 -- the store that a plan leaves; one that fails leaves the store as it was
 abbrev pub left_by : Contents → Result Outcome ApplyFault → Contents

@@ -6,13 +6,33 @@ use Rattle.std.specs.{Option.option_and_then, Option.option_map_or, Str.bytes_eq
 use Rattle.qm_json.specs.{declared.value.Json.Json, declared.value.Member.Member, Members.has_name, Members.members_of}
 use Rattle.qapi_types.specs.Lookups.{place_of, command_names}
 use Rattle.qm_admit.specs.declared.verdict.Verdict.{Verdict as Admission, TheVariants.Yes, TheVariants.No}
-use Rattle.qm_admit.specs.{Misfits.command_misfit, Misfits.is_object, Misfits.verdict_of as admission_of, Paths.printed_path, Views.string_of}
+use Rattle.qm_admit.specs.declared.{path.PathStep.PathStep, verdict.Fault.Fault}
+use Rattle.qm_admit.specs.{Misfits.command_misfit, Misfits.is_object, Misfits.verdict_of as admission_of, Views.string_of}
 use Rattle.qm_caps.specs.declared.mode.Mode.{Mode}
 use Rattle.qm_caps.specs.declared.mode.Mode.TheVariants as mode
 use Rattle.qm_core.specs.{Inputs.is_verb, Inputs.arguments_of, declared.inputs.Input.Input, declared.world.World.World}
-use Rattle.qm_core.specs.declared.{inputs.Input.TheVariants.Doc, inputs.Input.TheVariants.Bad, verdicts.Refusal.Refusal}
-use Rattle.qm_core.specs.declared.verdicts.Refusal.TheVariants.{BadInput as Malformed, NotAnObject, UnexpectedMember, TwoVerbs, NoVerb, VerbNoString, ArgumentsNoObject, NegotiationExpected, NegotiationComplete, UnknownCommand, Misfit}
-use Rattle.qm_core.specs.declared.verdicts.Verdict.{Verdict, TheVariants.Refused, TheVariants.Run}
+use Rattle.qm_core.specs.declared.inputs.{BadInput.BadInput, Input.TheVariants.Doc, Input.TheVariants.Bad}
+
+-- why a request is answered by an error; names are those of the request, and the way to a fault of
+-- the arguments is its steps
+pub data Refusal : Type 0 where
+  Malformed : BadInput → Refusal
+  NotAnObject : Refusal
+  UnexpectedMember : List ℕ → Refusal
+  TwoVerbs : Refusal
+  NoVerb : Refusal
+  VerbNoString : List ℕ → Refusal
+  ArgumentsNoObject : Refusal
+  NegotiationExpected : Refusal
+  NegotiationComplete : Refusal
+  UnknownCommand : List ℕ → Refusal
+  Misfit : Fault → List PathStep → Refusal
+
+-- what is made of a request before it takes effect: it is refused, or the command of the number
+-- takes effect
+pub data Verdict : Type 0 where
+  Refused : Refusal → Verdict
+  Run : ℕ → Verdict
 
 -- the refusal, where the test holds
 abbrev pub where_holds : Bool → Refusal → Option Refusal
@@ -63,16 +83,14 @@ misplaced mode name = first_of
     (where_holds (is_negotiating mode && not (bytes_eq name (codes "qmp_capabilities"))) NegotiationExpected
     ∷ where_holds (not (is_negotiating mode) && bytes_eq name (codes "qmp_capabilities")) NegotiationComplete ∷ [])
 
--- the arguments do not fit what the command takes: their first fault, and the text of the way to it
-abbrev pub misfit : World → Option Json → Admission → Option Refusal
-misfit world arguments Yes = None
-misfit world arguments (No fault path) = Some (Misfit fault (printed_path world.schema.kinds arguments path))
+-- the command takes effect where the arguments fit
+abbrev pub admitted_run : ℕ → Admission → Verdict
+admitted_run command Yes = Run command
+admitted_run command (No fault path) = Refused (Misfit fault path)
 
--- the command of the number takes effect where the arguments fit
 abbrev pub run_of : World → List ℕ → Option Json → Option ℕ → Verdict
 run_of world name arguments None = Refused (UnknownCommand name)
-run_of world name arguments (Some command) =
-    refused_or (misfit world arguments (admission_of (command_misfit world.schema command arguments))) (Run command)
+run_of world name arguments (Some command) = admitted_run command (admission_of (command_misfit world.schema command arguments))
 
 -- a command that takes effect is one of the world's
 abbrev pub IsKnown : World → Verdict → Type 0

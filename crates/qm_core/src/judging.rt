@@ -1,20 +1,21 @@
-ghost use Rattle.std.specs.Prelude.{◌≡◌, ◌&&◌, not, find, codes, IfOk};
+ghost use Rattle.std.specs.Prelude.{◌≡◌, ◌&&◌, not, find, codes, option_map};
 ghost use Rattle.std.specs.Option.{option_copied};
 ghost use Rattle.qm_json.specs.Members.{has_name, members_of};
 ghost use Rattle.qapi_types.specs.Lookups.{command_names, place_of};
 ghost use Rattle.qm_admit.specs.Misfits.{is_object};
 ghost use Rattle.qm_admit.specs.Views.{string_of};
 ghost use Rattle.qm_core.specs.Inputs.{command_name_of, is_verb};
+ghost use Rattle.qm_core.specs.Judged.{told, told_verdict};
+ghost use Rattle.qm_core.specs.Planned.{command_by};
 ghost use Rattle.qm_core.specs.Verdicts.{IsKnown, bad_arguments, command_verdict_of, is_expected, is_negotiating, malformed, may_be_out_of_band, misplaced, request_verdict_of, run_of, verdict_of};
 
-use crate::arguments::{arguments, misfit};
+use crate::arguments::arguments;
 use crate::inputs::Input;
 use crate::verdicts::{Refusal, Verdict};
 use crate::world::World;
-use qm_base::{NoMemory, Text};
+use qm_admit::{self, admit_args};
 use qm_caps::Mode;
 use qm_json::{Json, Member, has_member};
-use std::alloc::Global;
 
 fn may_be_out_of_band(mode: Mode) -> bool
     ensures { result ≡ may_be_out_of_band mode }
@@ -100,25 +101,24 @@ pub(crate) fn command_name(value: &Json) -> Option<&[u8]>
     }
 }
 
-fn malformed(alloc: Global, mode: Mode, value: &Json) -> Result<Option<Refusal>, NoMemory>
-    ensures { IfOk result (λ refusal. refusal ≡ malformed mode value.now) }
+fn malformed(mode: Mode, value: &Json) -> Option<Refusal<'_>>
+    ensures { option_map told result ≡ malformed mode value.now }
 {
     if !is_object(value) {
-        return Ok(Some(Refusal::NotAnObject));
+        return Some(Refusal::NotAnObject);
     }
     let members = members(value);
     if let Some(member) = unexpected(mode, members) {
-        let name = member.name.copy(alloc)?;
-        return Ok(Some(Refusal::UnexpectedMember(name)));
+        return Some(Refusal::UnexpectedMember(member.name.as_slice()));
     }
     if has_two_verbs(members) {
-        return Ok(Some(Refusal::TwoVerbs));
+        return Some(Refusal::TwoVerbs);
     }
-    Ok(None)
+    None
 }
 
-fn bad_arguments(value: &Json) -> Option<Refusal>
-    ensures { result ≡ bad_arguments value.now }
+fn bad_arguments(value: &Json) -> Option<Refusal<'_>>
+    ensures { option_map told result ≡ bad_arguments value.now }
 {
     match arguments(value) {
         Some(arguments) if !is_object(arguments) => Some(Refusal::ArgumentsNoObject),
@@ -126,8 +126,8 @@ fn bad_arguments(value: &Json) -> Option<Refusal>
     }
 }
 
-fn misplaced(mode: Mode, name: &[u8]) -> Option<Refusal>
-    ensures { result ≡ misplaced mode name.now }
+fn misplaced(mode: Mode, name: &[u8]) -> Option<Refusal<'_>>
+    ensures { option_map told result ≡ misplaced mode name.now }
 {
     let negotiates = name == b"qmp_capabilities".as_slice();
     if is_negotiating(mode) && !negotiates {
@@ -139,80 +139,58 @@ fn misplaced(mode: Mode, name: &[u8]) -> Option<Refusal>
     None
 }
 
-fn run(
-    alloc: Global,
-    world: &World,
-    name: &[u8],
-    arguments: Option<&Json>,
-) -> Result<Verdict, NoMemory>
+fn run<'a>(world: &World, name: &'a [u8], arguments: Option<&Json>) -> Verdict<'a>
     ensures value { let command = place_of (command_names world.now.schema) name.now in
-        IfOk result (λ verdict. verdict
-        ≡ run_of world.now name.now (option_copied arguments.entry) command) }
-    ensures known { IfOk result (IsKnown world.now) }
+        told_verdict result ≡ run_of world.now name.now (option_copied arguments.entry) command }
+    ensures known { IsKnown world.now (told_verdict result) }
 {
     let Some(command) = world.schema.find_command(name) else {
-        return Ok(Verdict::Refused(Refusal::UnknownCommand(Text::of(alloc, name)?)));
+        return Verdict::Refused(Refusal::UnknownCommand(name));
     };
-    match misfit(alloc, world, command, arguments)? {
-        Some(refusal) => Ok(Verdict::Refused(refusal)),
-        None => Ok(Verdict::Run(command)),
+    match admit_args(&world.schema, command, arguments) {
+        qm_admit::Verdict::Yes => Verdict::Run(command),
+        qm_admit::Verdict::No(fault, path) => Verdict::Refused(Refusal::Misfit(fault, path)),
     }
 }
 
-fn command_verdict(
-    alloc: Global,
-    world: &World,
-    mode: Mode,
-    value: &Json,
-    name: &[u8],
-) -> Result<Verdict, NoMemory>
-    ensures value { IfOk result (λ verdict. verdict
-        ≡ command_verdict_of world.now mode value.now name.now) }
-    ensures known { IfOk result (IsKnown world.now) }
+fn command_verdict<'a>(world: &World, mode: Mode, value: &'a Json, name: &'a [u8]) -> Verdict<'a>
+    ensures value { told_verdict result ≡ command_verdict_of world.now mode value.now name.now }
+    ensures known { IsKnown world.now (told_verdict result) }
 {
     if let Some(refusal) = bad_arguments(value) {
-        return Ok(Verdict::Refused(refusal));
+        return Verdict::Refused(refusal);
     }
     if let Some(refusal) = misplaced(mode, name) {
-        return Ok(Verdict::Refused(refusal));
+        return Verdict::Refused(refusal);
     }
-    run(alloc, world, name, arguments(value))
+    run(world, name, arguments(value))
 }
 
-fn request_verdict(
-    alloc: Global,
-    world: &World,
-    mode: Mode,
-    value: &Json,
-) -> Result<Verdict, NoMemory>
-    ensures value { IfOk result (λ verdict. verdict ≡ request_verdict_of world.now mode value.now) }
-    ensures known { IfOk result (IsKnown world.now) }
+fn request_verdict<'a>(world: &World, mode: Mode, value: &'a Json) -> Verdict<'a>
+    ensures value { told_verdict result ≡ request_verdict_of world.now mode value.now }
+    ensures known { IsKnown world.now (told_verdict result) }
 {
-    if let Some(refusal) = malformed(alloc, mode, value)? {
-        return Ok(Verdict::Refused(refusal));
+    if let Some(refusal) = malformed(mode, value) {
+        return Verdict::Refused(refusal);
     }
     let Some(verb) = verb(members(value)) else {
-        return Ok(Verdict::Refused(Refusal::NoVerb));
+        return Verdict::Refused(Refusal::NoVerb);
     };
     match string(&verb.value) {
-        Some(name) => command_verdict(alloc, world, mode, value, name),
-        None => Ok(Verdict::Refused(Refusal::VerbNoString(verb.name.copy(alloc)?))),
+        Some(name) => command_verdict(world, mode, value, name),
+        None => Verdict::Refused(Refusal::VerbNoString(verb.name.as_slice())),
     }
 }
 
 /// The verdict on an input that was admitted in a mode (QMP specification, "Issuing Commands" and
-/// "Capabilities Negotiation"): the first check that it fails, or the command that takes effect.
-pub(crate) fn verdict(
-    alloc: Global,
-    world: &World,
-    mode: Mode,
-    input: &Input,
-) -> Result<Verdict, NoMemory>
-    ensures value { IfOk result (λ verdict. verdict ≡ verdict_of world.now mode input.now) }
-    ensures known { IfOk result (IsKnown world.now) }
+/// "Capabilities Negotiation"): the first check that it fails, or the command that takes effect. It
+/// takes no memory.
+pub(crate) fn verdict<'a>(world: &World, mode: Mode, input: &'a Input) -> Verdict<'a>
+    ensures value { told_verdict result ≡ verdict_of world.now mode input.now }
+    ensures known { IsKnown world.now (told_verdict result) }
 {
     match input {
-        Input::Doc(value) => request_verdict(alloc, world, mode, value.get()),
-        Input::Bad(bad) => Ok(Verdict::Refused(Refusal::BadInput(*bad))),
+        Input::Doc(value) => request_verdict(world, mode, value.get()),
+        Input::Bad(bad) => Verdict::Refused(Refusal::BadInput(*bad)),
     }
 }

@@ -1,15 +1,24 @@
 //! Laws of every legal journal.
 
-ghost use Rattle.std.specs.Prelude.{◌≡◌, ℕ, List, ◌∷◌, ◌++◌, Option};
+ghost use Rattle.std.specs.Prelude.{◌≡◌, ℕ, List, ◌∷◌, ◌++◌, Option, false, option_map};
 ghost use Rattle.qm_base.specs.Prefixes.{IsPrefix};
+ghost use Rattle.qm_json.specs.declared.value.Json.{Json};
+ghost use Rattle.qm_plan.specs.Plans.{arguments_of, given_arguments, plan_of};
+ghost use Rattle.qm_plan.specs.declared.calls.Call.{Call};
+ghost use Rattle.qm_plan.specs.declared.recipes.Plan.{Plan};
 ghost use Rattle.qm_core.specs.Answers.{IsAnswer};
 ghost use Rattle.qm_core.specs.Legal.{IsLegal, past_of};
 ghost use Rattle.qm_core.specs.Next.{Next, View, Step, IsCleanStep};
 ghost use Rattle.qm_core.specs.Order.{MayFollow};
+ghost use Rattle.qm_core.specs.Planned.{call_of, planned_for, recipe_at};
+ghost use Rattle.qm_core.specs.Replies.{is_return};
+ghost use Rattle.qm_core.specs.Standing.{mode_of};
+ghost use Rattle.qm_core.specs.State.{store_of};
 ghost use Rattle.qm_core.specs.Transcript.{transcript_of, taken_of, untaken_of};
 ghost use Rattle.qm_core.specs.declared.TheConstants.{DROP_BYTES, MOST_ENTRIES, MOST_SESSIONS, MOST_TEXT, MOST_UNTAKEN};
-ghost use Rattle.qm_core.specs.declared.entries.Entry.{Entry};
+ghost use Rattle.qm_core.specs.declared.entries.Entry.{Entry, TheVariants.Done};
 ghost use Rattle.qm_core.specs.declared.entries.StepFault.{StepFault};
+ghost use Rattle.qm_core.specs.declared.requests.Request.{Request};
 ghost use Rattle.qm_core.specs.declared.world.World.{World};
 
 /// Each entry of a world's journal may come after those before it, and each reply is the world's
@@ -35,6 +44,22 @@ pub fn a_step_keeps_the_journal_legal()
     ensures { (old : View) (step : Step) (fault : Option StepFault) (new : View) →
         Next old step fault new → IsCleanStep step →
         IsLegal old.world old.journal → IsLegal new.world new.journal }
+{}
+
+/// A reply that is an error changes no cell, no tally and no session's mode.
+pub fn failed_replies_change_nothing()
+    ensures store { (world : World) (past : List Entry) (s k : ℕ) (plan : Option Plan) (reply : Json) (moment : ℕ) →
+        is_return reply ≡ false → store_of world (Done s k plan reply moment ∷ past) ≡ store_of world past }
+    ensures mode { (past : List Entry) (t s k : ℕ) (plan : Option Plan) (reply : Json) (moment : ℕ) →
+        is_return reply ≡ false → mode_of t (Done s k plan reply moment ∷ past) ≡ mode_of t past }
+{}
+
+/// The plan of a request is the recipe of the command that it calls with the call's arguments
+/// filled in, as `qm_plan::plan` makes it; a request that makes no call has none.
+pub fn a_call_has_its_plan()
+    ensures { (world : World) (request : Request) → planned_for world request
+        ≡ option_map (λ (call : Call). plan_of (recipe_at world call.command) (arguments_of (given_arguments call)))
+        (call_of world request) }
 {}
 
 /// The limits, as numbers.

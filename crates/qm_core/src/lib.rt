@@ -30,7 +30,7 @@ pub use lines::LineList;
 pub use monitor::{Limits, Monitor};
 pub use offers::Offer;
 pub use requests::{Admitted, Request, RequestName, Started};
-pub use verdicts::{Class, Refusal, Verdict};
+pub use verdicts::Class;
 pub use words::lane_word;
 pub use world::World;
 

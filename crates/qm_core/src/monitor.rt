@@ -10,7 +10,7 @@ ghost use Rattle.qm_core.specs.Transcript.{has_overrun};
 
 use crate::entries::StepFault;
 use crate::journal::{EntryList, Journal};
-use crate::plans::planned;
+use crate::plans::call_plan;
 use crate::requests::{Request, RequestName};
 use crate::sessions::Session;
 use crate::world::{Setting, World};
@@ -50,6 +50,8 @@ pub struct Monitor {
     journal: Journal,
     session: Session,
     running: Option<Request>,
+    /// The command of the running request that takes effect.
+    command: Option<u32>,
     last_moment: u64,
     store: Store,
 }
@@ -91,6 +93,7 @@ impl Monitor {
             journal,
             session: Session::unopened(alloc),
             running: None,
+            command: None,
             last_moment: 0,
             store,
         })
@@ -131,9 +134,12 @@ impl Monitor {
         ensures { let running = running_of (past_of self.now.journal) in
             IfOk result (λ plan. plan ≡ planned_of self.now.world running) }
     {
-        match &self.running {
-            Some(request) => planned(alloc, self.world.world(), request),
-            None => Ok(None),
+        match (&self.running, self.command) {
+            (Some(request), Some(command)) => {
+                let plan = call_plan(alloc, self.world.world(), request, command)?;
+                Ok(Some(plan))
+            }
+            (_, _) => Ok(None),
         }
     }
 

@@ -1,20 +1,41 @@
-//! The plan of a request. This project's own rule.
+//! The command that a request makes take effect, its call and its plan. This project's own rule.
 
-ghost use Rattle.std.specs.Prelude.{◌≡◌, ◌<◌, [], length, IfOk};
+ghost use Rattle.std.specs.Prelude.{◌≡◌, ◌<◌, length, IfOk, IfSome};
 ghost use Rattle.std.specs.Option.{option_copied};
 ghost use Rattle.qm_plan.specs.Plans.{arguments_of, plan_of};
-ghost use Rattle.qm_core.specs.Planned.{plain_recipe, plan_for, planned_by, planned_for, recipe_at};
+ghost use Rattle.qm_core.specs.Planned.{call_with, command_by, command_for, plain_recipe, plan_for, recipe_at};
 
 use crate::arguments::arguments_in;
 use crate::judging::verdict;
 use crate::requests::Request;
 use crate::verdicts::Verdict;
 use crate::world::World;
-use qm_base::NoMemory;
+use qm_base::{NoMemory, Shared};
 use qm_json::{Json, Members};
-use qm_plan::{Plan, Template, plan_with};
+use qm_plan::{Call, Plan, Template, plan_with};
 use sqlite_items::Items;
 use std::alloc::Global;
+
+/// The command of a request that takes effect. It takes no memory.
+pub(crate) fn command(world: &World, request: &Request) -> Option<u32>
+    ensures value { result ≡ command_for world.now request.now }
+    ensures known { IfSome result (λ command. command < length world.now.schema.commands) }
+{
+    match verdict(world, request.mode, &request.input) {
+        Verdict::Run(command) => Some(command),
+        Verdict::Refused(_) => None,
+    }
+}
+
+/// The call of a command by a value.
+pub(crate) fn call(command: Option<u32>, request: Option<Shared<Json>>) -> Option<Call>
+    ensures { result ≡ call_with command request }
+{
+    match (command, request) {
+        (Some(command), Some(request)) => Some(Call { command, request }),
+        (_, _) => None,
+    }
+}
 
 fn plain_plan(alloc: Global, arguments: Option<&Json>) -> Plan
     ensures { result ≡ plan_of plain_recipe (arguments_of (option_copied arguments.entry)) }
@@ -42,7 +63,7 @@ fn command_plan(
 }
 
 /// The plan of a command that a request calls.
-fn call_plan(
+pub(crate) fn call_plan(
     alloc: Global,
     world: &World,
     request: &Request,
@@ -52,33 +73,4 @@ fn call_plan(
 {
     let arguments = arguments_in(&request.input);
     command_plan(alloc, world, command, arguments)
-}
-
-fn planned_by(
-    alloc: Global,
-    world: &World,
-    request: &Request,
-    verdict: &Verdict,
-) -> Result<Option<Plan>, NoMemory>
-    ensures { IfOk result (λ plan. plan ≡ planned_by world.now request.now verdict.now) }
-{
-    match verdict {
-        Verdict::Run(command) => {
-            let plan = call_plan(alloc, world, request, *command)?;
-            Ok(Some(plan))
-        }
-        Verdict::Refused(_) => Ok(None),
-    }
-}
-
-/// The plan of a request; one that is refused has none.
-pub(crate) fn planned(
-    alloc: Global,
-    world: &World,
-    request: &Request,
-) -> Result<Option<Plan>, NoMemory>
-    ensures { IfOk result (λ plan. plan ≡ planned_for world.now request.now) }
-{
-    let verdict = verdict(alloc, world, request.mode, &request.input)?;
-    planned_by(alloc, world, request, &verdict)
 }

@@ -1,11 +1,16 @@
 ghost use Rattle.std.specs.Prelude.{◌≡◌, ◌++◌, IfOk};
 ghost use Rattle.std.specs.Fmt.{decimal};
+ghost use Rattle.qm_admit.specs.Paths.{printed_path};
+ghost use Rattle.qm_core.specs.Inputs.{arguments_in as arguments_in_input};
+ghost use Rattle.qm_core.specs.Judged.{told};
 ghost use Rattle.qm_core.specs.Refusals.{bad_desc_of, class_name_of, class_of, desc_of, frame_desc_of, json_desc_of, misfit_desc_of};
 
-use crate::inputs::{BadInput, FrameWord, JsonWord};
+use crate::arguments::arguments_in;
+use crate::inputs::{BadInput, FrameWord, Input, JsonWord};
 use crate::verdicts::{Class, Refusal};
+use crate::world::World;
 use itoa::Buffer;
-use qm_admit::Fault;
+use qm_admit::{Fault, PathList, path_text};
 use qm_base::{NoMemory, Text};
 use std::alloc::Global;
 
@@ -18,11 +23,11 @@ fn with_place(alloc: Global, front: &[u8], place: u64) -> Result<Text, NoMemory>
     Ok(text)
 }
 
-fn with_name(alloc: Global, front: &[u8], name: &Text, back: &[u8]) -> Result<Text, NoMemory>
+fn with_name(alloc: Global, front: &[u8], name: &[u8], back: &[u8]) -> Result<Text, NoMemory>
     ensures { IfOk result (λ text. text ≡ front.now ++ name.now ++ back.now) }
 {
     let mut text = Text::of(alloc, front)?;
-    text.extend(name.as_slice())?;
+    text.extend(name)?;
     text.extend(back)?;
     Ok(text)
 }
@@ -66,7 +71,7 @@ fn bad_desc(alloc: Global, bad: BadInput) -> Result<Text, NoMemory>
     }
 }
 
-fn misfit_desc(alloc: Global, fault: Fault, path: &Text) -> Result<Text, NoMemory>
+fn fault_desc(alloc: Global, fault: Fault, path: &[u8]) -> Result<Text, NoMemory>
     ensures { IfOk result (λ text. text ≡ misfit_desc_of fault path.now) }
 {
     match fault {
@@ -79,9 +84,28 @@ fn misfit_desc(alloc: Global, fault: Fault, path: &Text) -> Result<Text, NoMemor
     }
 }
 
-/// The description of a refusal.
-pub(crate) fn desc(alloc: Global, refusal: &Refusal) -> Result<Text, NoMemory>
-    ensures { IfOk result (λ text. text ≡ desc_of refusal.now) }
+fn misfit_desc(
+    alloc: Global,
+    world: &World,
+    input: &Input,
+    fault: Fault,
+    path: &PathList,
+) -> Result<Text, NoMemory>
+    ensures { let way = printed_path world.now.schema.kinds (arguments_in_input input.now) path.now in
+        IfOk result (λ text. text ≡ misfit_desc_of fault way) }
+{
+    let way = path_text(alloc, &world.schema, arguments_in(input), path)?;
+    fault_desc(alloc, fault, way.as_slice())
+}
+
+/// The description of a refusal of an input.
+pub(crate) fn desc(
+    alloc: Global,
+    world: &World,
+    input: &Input,
+    refusal: &Refusal<'_>,
+) -> Result<Text, NoMemory>
+    ensures { IfOk result (λ text. text ≡ desc_of world.now input.now (told refusal.now)) }
 {
     match refusal {
         Refusal::BadInput(bad) => bad_desc(alloc, *bad),
@@ -112,13 +136,13 @@ pub(crate) fn desc(alloc: Global, refusal: &Refusal) -> Result<Text, NoMemory>
         Refusal::UnknownCommand(name) => {
             with_name(alloc, b"The command ", name, b" has not been found")
         }
-        Refusal::Misfit(fault, path) => misfit_desc(alloc, *fault, path),
+        Refusal::Misfit(fault, path) => misfit_desc(alloc, world, input, *fault, path),
     }
 }
 
 /// The class of a refusal.
-pub(crate) fn class(refusal: &Refusal) -> Class
-    ensures { result ≡ class_of refusal.now }
+pub(crate) fn class(refusal: &Refusal<'_>) -> Class
+    ensures { result ≡ class_of (told refusal.now) }
 {
     match refusal {
         Refusal::NegotiationExpected | Refusal::NegotiationComplete | Refusal::UnknownCommand(_) =>

@@ -1,4 +1,4 @@
-ghost use Rattle.std.specs.Prelude.{◌≡◌, ◌<◌, [], ◌∷◌, ◌++◌, length, codes, false, IfOk, Some};
+ghost use Rattle.std.specs.Prelude.{◌≡◌, ◌<◌, [], ◌∷◌, ◌++◌, length, codes, false, option_map, IfOk, IfSome, Some};
 ghost use Rattle.std.specs.Option.{option_copied};
 ghost use Rattle.qm_json.specs.Members.{has_name};
 ghost use Rattle.qm_caps.specs.Greetings.{named};
@@ -6,7 +6,8 @@ ghost use Rattle.qm_json.specs.declared.value.Json.TheVariants as json;
 ghost use Rattle.qm_plan.specs.Applying.{applied_of};
 ghost use Rattle.qm_plan.specs.Stores.{committed};
 ghost use Rattle.qm_core.specs.Effects.{effect_of, facts_of};
-ghost use Rattle.qm_core.specs.Planned.{planned_by, planned_for};
+ghost use Rattle.qm_core.specs.Judged.{told, told_verdict};
+ghost use Rattle.qm_core.specs.Planned.{command_by, command_for, plan_for, planned_for};
 ghost use Rattle.qm_core.specs.Refusals.{class_of, desc_of};
 ghost use Rattle.qm_core.specs.Replies.{effect_member, error_value, id_members, id_of, is_return, outcome_of, reply_to};
 ghost use Rattle.qm_core.specs.State.{effect_store, stored, verdict_store};
@@ -19,7 +20,7 @@ use crate::judging::{command_name, members, verdict};
 use crate::refusals::{class, class_name, desc};
 use crate::requests::Request;
 use crate::verdicts::{Class, Refusal, Verdict};
-use crate::world::Setting;
+use crate::world::{Setting, World};
 use qm_base::{NoMemory, Text};
 use qm_json::{Json, Members, has_member};
 use qm_plan::{Plan, Store, StoreChangeList};
@@ -43,12 +44,18 @@ fn lone(alloc: Global, name: &[u8], value: Json) -> Result<Members, NoMemory>
     Ok(members)
 }
 
-fn refused(alloc: Global, refusal: &Refusal) -> Result<Members, NoMemory>
-    ensures value { IfOk result (λ members. members
-        ≡ named (codes "error") (error_value (class_of refusal.now) (desc_of refusal.now)) ∷ []) }
+fn refused(
+    alloc: Global,
+    world: &World,
+    input: &Input,
+    refusal: &Refusal<'_>,
+) -> Result<Members, NoMemory>
+    ensures value { let desc = desc_of world.now input.now (told refusal.now) in
+        IfOk result (λ members. members
+        ≡ named (codes "error") (error_value (class_of (told refusal.now)) desc) ∷ []) }
     ensures no_id { IfOk result (λ members. has_name members (codes "id") ≡ false) }
 {
-    let desc = desc(alloc, refusal)?;
+    let desc = desc(alloc, world, input, refusal)?;
     lone(alloc, b"error", error(alloc, class(refusal), desc)?)
 }
 
@@ -69,14 +76,20 @@ struct Message {
     changes: StoreChangeList,
 }
 
-fn refused_outcome(alloc: Global, refusal: &Refusal) -> Result<Message, NoMemory>
-    ensures value { IfOk result (λ outcome. outcome.members
-        ≡ named (codes "error") (error_value (class_of refusal.now) (desc_of refusal.now)) ∷ []) }
+fn refused_outcome(
+    alloc: Global,
+    world: &World,
+    input: &Input,
+    refusal: &Refusal<'_>,
+) -> Result<Message, NoMemory>
+    ensures value { let desc = desc_of world.now input.now (told refusal.now) in
+        IfOk result (λ outcome. outcome.members
+        ≡ named (codes "error") (error_value (class_of (told refusal.now)) desc) ∷ []) }
     ensures no_id { IfOk result (λ outcome. has_name outcome.members (codes "id") ≡ false) }
     ensures changes { IfOk result (λ outcome. outcome.changes ≡ []) }
 {
     Ok(Message {
-        members: refused(alloc, refusal)?,
+        members: refused(alloc, world, input, refusal)?,
         changes: StoreChangeList::new(alloc),
     })
 }
@@ -106,20 +119,22 @@ fn outcome(
     setting: &Setting,
     store: &Store,
     request: &Request,
-    verdict: &Verdict,
+    verdict: &Verdict<'_>,
     plan: &Option<Plan>,
 ) -> Result<Message, NoMemory>
-    requires known { IsKnown setting.now verdict.now }
-    requires planned { plan.now ≡ planned_by setting.now request.now verdict.now }
+    requires known { IsKnown setting.now (told_verdict verdict.now) }
+    requires planned { let command = command_by (told_verdict verdict.now) in
+        plan.now ≡ option_map (plan_for setting.now request.now) command }
     ensures value { IfOk result (λ outcome. outcome.members
-        ≡ outcome_of setting.now store.now request.now verdict.now ∷ []) }
+        ≡ outcome_of setting.now store.now request.now (told_verdict verdict.now) ∷ []) }
     ensures no_id { IfOk result (λ outcome. has_name outcome.members (codes "id") ≡ false) }
     ensures changes { IfOk result (λ outcome. committed outcome.changes store.now
-        ≡ verdict_store setting.now store.now request.now verdict.now) }
+        ≡ verdict_store setting.now store.now request.now (told_verdict verdict.now)) }
 {
-    let _ = request;
     match (verdict, plan) {
-        (Verdict::Refused(refusal), _) => refused_outcome(alloc, refusal),
+        (Verdict::Refused(refusal), _) => refused_outcome(
+            alloc, setting.world(), &request.input, refusal,
+        ),
         (Verdict::Run(command), Some(plan)) => command_outcome(
             alloc, setting, store, *command, plan,
         ),
@@ -156,13 +171,30 @@ pub(crate) struct Reply {
     pub(crate) changes: StoreChangeList,
 }
 
+/// The verdict on a request whose command is known, where one takes effect.
+#[tactic(auto, using(crate::proofs::StoreLaws::run_by_command))]
+fn verdict_by<'a>(world: &World, request: &'a Request, command: Option<u32>) -> Verdict<'a>
+    requires command { command ≡ command_for world.now request.now }
+    requires known { IfSome command (λ c. c < length world.now.schema.commands) }
+    ensures value { told_verdict result ≡ verdict_of world.now request.now.mode request.now.input }
+    ensures known { IsKnown world.now (told_verdict result) }
+{
+    match command {
+        Some(command) => Verdict::Run(command),
+        None => verdict(world, request.mode, &request.input),
+    }
+}
+
 fn judged_message(
     alloc: Global,
     setting: &Setting,
     store: &Store,
     request: &Request,
+    command: Option<u32>,
     plan: &Option<Plan>,
 ) -> Result<Message, NoMemory>
+    requires command { command ≡ command_for setting.now request.now }
+    requires known { IfSome command (λ c. c < length setting.now.schema.commands) }
     requires planned { plan.now ≡ planned_for setting.now request.now }
     ensures value { let verdict = verdict_of setting.now request.now.mode request.now.input in
         IfOk result (λ message. message.members
@@ -172,26 +204,30 @@ fn judged_message(
         IfOk result (λ message. committed message.changes store.now
         ≡ verdict_store setting.now store.now request.now verdict) }
 {
-    let verdict = verdict(alloc, setting.world(), request.mode, &request.input)?;
+    let verdict = verdict_by(setting.world(), request, command);
     outcome(alloc, setting, store, request, &verdict, plan)
 }
 
-/// The reply to a request, by its mode at its admission, its plan and the store, which stays as it
-/// is (QMP specification, "Commands Responses").
+/// The reply to a request, by its mode at its admission, its command that takes effect, its plan
+/// and the store, which stays as it is (QMP specification, "Commands Responses").
 #[tactic(auto, using(crate::proofs::StoreLaws::stored_by_verdict))]
 pub(crate) fn replied(
     alloc: Global,
     setting: &Setting,
     store: &Store,
     request: &Request,
+    command: Option<u32>,
     plan: &Option<Plan>,
 ) -> Result<Reply, NoMemory>
+    requires command { command ≡ command_for setting.now request.now }
+    requires known { IfSome command (λ c. c < length setting.now.schema.commands) }
     requires planned { plan.now ≡ planned_for setting.now request.now }
     ensures value { IfOk result (λ reply. reply.value ≡ reply_to setting.now store.now request.now) }
     ensures changes { IfOk result (λ reply. committed reply.changes store.now
         ≡ stored setting.now store.now plan.now (reply_to setting.now store.now request.now)) }
 {
-    let Message { members, changes } = judged_message(alloc, setting, store, request, plan)?;
+    let Message { members, changes } =
+        judged_message(alloc, setting, store, request, command, plan)?;
     let value = with_id(alloc, members, &request.input)?;
     Ok(Reply { value, changes })
 }

@@ -1,5 +1,5 @@
 use crate::outbox::Outbox;
-use crate::requests::Request;
+use crate::requests::Waiting;
 use qm_base::{NoMemory, Shared, Text};
 use qm_caps::Mode;
 use std::alloc::Global;
@@ -13,7 +13,7 @@ pub(crate) struct Session {
     pub(crate) admitted: u64,
     pub(crate) mode: Mode,
     /// The request that was admitted and not started; a session has one at most.
-    pub(crate) waiting: Option<Request>,
+    pub(crate) waiting: Option<Waiting>,
     pub(crate) outbox: Outbox,
     /// Whether a line did not fit into the outbox. From then on the session gets no line.
     pub(crate) overrun: bool,

@@ -1,4 +1,4 @@
-ghost use Rattle.std.specs.Prelude.{◌≡◌, ◌≢◌, ◌+◌, ◌≤◌, ◌<◌, ◌^◌, ◌&&◌, [], if◌then◌else◌, Some, None, Err, IfSome, IfOk, IsSome, OnOk, OnErr, false};
+ghost use Rattle.std.specs.Prelude.{◌≡◌, ◌≢◌, ◌+◌, ◌≤◌, ◌<◌, ◌^◌, ◌&&◌, [], length, if◌then◌else◌, Some, None, Err, option_map, IfSome, IfOk, IsSome, OnOk, OnErr, false};
 ghost use Rattle.std.specs.Result.{result_err};
 ghost use Rattle.qm_json.specs.Printing.{printed};
 ghost use Rattle.qm_caps.specs.Modes.{bound_of};
@@ -7,7 +7,8 @@ ghost use Rattle.qm_core.specs.Legal.{past_of};
 ghost use Rattle.qm_core.specs.Next.{Next, Admit, Start, Finish, is_running, start_entry};
 ghost use Rattle.qm_core.specs.declared.entries.Entry.TheVariants as entry;
 ghost use Rattle.qm_plan.specs.Stores.{committed};
-ghost use Rattle.qm_core.specs.Planned.{planned_for, planned_of};
+ghost use Rattle.qm_core.specs.Inputs.{document_of};
+ghost use Rattle.qm_core.specs.Planned.{command_for, planned_for, planned_of, started_of};
 ghost use Rattle.qm_core.specs.Replies.{reply_to, is_return};
 ghost use Rattle.qm_core.specs.State.{stored};
 ghost use Rattle.qm_core.specs.Standing.{is_ended, admitted_of, in_flight_of, mode_of, waiting_of, running_of, starting_of, named_of, negotiates};
@@ -17,8 +18,9 @@ use crate::inputs::Input;
 use crate::lines::line;
 use crate::monitor::Monitor;
 use crate::offers::{Offer, Owners};
+use crate::plans::{call, command};
 use crate::replies::{self, Reply};
-use crate::requests::{Admitted, Request, RequestName, Started};
+use crate::requests::{Admitted, Begun, Request, RequestName, Started, Waiting};
 use crate::world::Setting;
 use qm_base::{NoMemory, Shared, Text};
 use qm_caps::{Lane, bound};
@@ -40,8 +42,11 @@ fn answer_to(
     world: &Setting,
     store: &Store,
     request: &Request,
+    command: Option<u32>,
     plan: &Option<Plan>,
 ) -> Result<Answer, NoMemory>
+    requires command { command ≡ command_for world.now request.now }
+    requires known { IfSome command (λ c. c < length world.now.schema.commands) }
     requires planned { plan.now ≡ planned_for world.now request.now }
     ensures reply { IfOk result (λ answer. answer.reply ≡ reply_to world.now store.now request.now) }
     ensures line { IfOk result (λ answer. answer.line ≡ printed (reply_to world.now store.now request.now)) }
@@ -50,7 +55,7 @@ fn answer_to(
     ensures store { IfOk result (λ answer. committed answer.changes store.now
         ≡ stored world.now store.now plan.now (reply_to world.now store.now request.now)) }
 {
-    let Reply { value, changes } = replies::replied(alloc, world, store, request, plan)?;
+    let Reply { value, changes } = replies::replied(alloc, world, store, request, command, plan)?;
     let line = line(alloc, &value)?;
     let opens_commands = replies::negotiates(request) && replies::is_return(&value);
     Ok(Answer {
@@ -59,6 +64,19 @@ fn answer_to(
         changes,
         opens_commands,
     })
+}
+
+/// Moves the request that waits out.
+fn begun(waiting: &mut Option<Waiting>) -> Begun
+    requires { IsSome waiting.old }
+    ensures request { Some result.request ≡ waiting.old }
+    ensures document { result.document ≡ document_of result.request.input }
+    ensures none { waiting.new ≡ None }
+{
+    match waiting.take() {
+        Some(waiting) => waiting.begin(),
+        None => unreachable!(),
+    }
 }
 
 /// A request to be started, and the bytes of its entry.
@@ -104,12 +122,17 @@ impl Monitor {
         ensures next { IfSome offer.old (λ input.
             Next self.old (Admit session input) (result_err result) self.new) }
         ensures value { let number = admitted_of session (past_of self.old.journal) + 1 in
-            IfOk result (λ admitted. admitted ≡ record { number = number; lane = InBand }) }
+            IfOk result (λ admitted. admitted
+            ≡ record { number = number; lane = InBand; call = None }) }
         ensures spent { OnOk result (offer.new ≡ None) }
         ensures kept { OnErr result (offer.new ≡ offer.old) }
     {
         let bytes = self.may_admit(session, offer.kept())?;
-        let Owners { kept, waiting } = offer.spend();
+        let Owners {
+            kept,
+            waiting,
+            document,
+        } = offer.spend();
         let number = self.session.admitted + 1;
         let request = Request {
             session,
@@ -118,7 +141,7 @@ impl Monitor {
             input: waiting,
         };
         self.session.admitted = number;
-        self.session.waiting = Some(request);
+        self.session.waiting = Some(Waiting::new(request, document));
         self.journal.put(
             Entry::Admit {
                 session,
@@ -131,6 +154,7 @@ impl Monitor {
         Ok(Admitted {
             number,
             lane: Lane::InBand,
+            call: None,
         })
     }
 
@@ -145,9 +169,10 @@ impl Monitor {
         if self.running.is_some() {
             return Err(StepFault::Nothing);
         }
-        let Some(request) = &self.session.waiting else {
+        let Some(waiting) = &self.session.waiting else {
             return Err(StepFault::Nothing);
         };
+        let request = waiting.request();
         let name = RequestName {
             session: request.session,
             number: request.number,
@@ -163,14 +188,21 @@ impl Monitor {
     pub fn start(&mut self) -> Result<Started, StepFault>
         ensures next { Next self.old Start (result_err result) self.new }
         ensures value { let past = past_of self.old.journal in
-            IfOk result (λ started. named_of (starting_of past)
-            ≡ Some record { session = started.session; number = started.number }) }
+            IfOk result (λ started. option_map (started_of self.old.world) (starting_of past)
+            ≡ Some started) }
     {
         let Starting { name, bytes } = self.may_start()?;
         let RequestName { session, number } = name;
-        self.running = self.session.waiting.take();
+        let Begun { request, document } = begun(&mut self.session.waiting);
+        let command = command(self.world.world(), &request);
+        self.running = Some(request);
+        self.command = command;
         self.journal.put(Entry::Start { session, number }, bytes);
-        Ok(Started { session, number })
+        Ok(Started {
+            session,
+            number,
+            call: call(command, document),
+        })
     }
 
     fn may_finish(&self, session: u32, number: u64) -> Result<&Request, StepFault>
@@ -215,12 +247,15 @@ impl Monitor {
             line,
             changes,
             opens_commands,
-        } = answer_to(alloc, &self.world, &self.store, request, &plan)?;
+        } = answer_to(
+            alloc, &self.world, &self.store, request, self.command, &plan,
+        )?;
         let moment = moment.max(self.last_moment);
         let bytes = self.finish_room(session, number, &plan, &reply, moment)?;
         self.session.answer(line, opens_commands)?;
         self.store.commit(changes);
         self.running = None;
+        self.command = None;
         self.last_moment = moment;
         self.journal.put(
             Entry::Done {

@@ -6,4 +6,4 @@ use Rattle.qm_core.proofs.monitor.Monitor.end.Goals as goal
 pub invariant_of-self : goal.invariant_of-self
 invariant_of-self c =
     let ok = rw (← c.self.view_is) at c.in_ok-bytes.ensures in
-    after_entry c.self.inside (Eof c.args.session) _ _ _ _ _ _ c.self.invariant (search rules) tt ok.placed c.put.ensures (search rules) (search rules) c.self.invariant.moment c.self.invariant.store
+    after_entry c.self.inside (Eof c.args.session) _ _ _ _ _ _ _ c.self.invariant (search rules) tt ok.placed c.put.ensures (search rules) (search rules) c.self.invariant.moment c.self.invariant.store
