@@ -4,7 +4,7 @@ ghost use Rattle.std.specs.Prelude.{◌≡◌, ◌≢◌, ◌<◌, [], IfOk, OnE
 ghost use Rattle.qm_base.specs.Names.{is_named};
 ghost use Rattle.qm_admit.specs.Misfits.{return_misfit, verdict_of as admission_of};
 ghost use Rattle.qm_plan.specs.Applying.{applied_of, outcome_in};
-ghost use Rattle.qm_plan.specs.Stores.{committed};
+ghost use Rattle.qm_plan.specs.Stores.{Contents, committed};
 ghost use Rattle.qm_plan.specs.declared.applied.ApplyFault.TheVariants.{Memory};
 ghost use Rattle.qm_core.specs.Effects.{command_name_at, effect_of, facts_of, failure_text, full_text, is_true, named_effect, outcome_effect, applied_effect, returned as returned_by, unbuilt_names, unbuilt_text};
 ghost use Rattle.qm_core.specs.State.{left_by};
@@ -99,18 +99,16 @@ fn is_true(choice: Option<bool>) -> bool
 fn outcome_ending(
     alloc: Global,
     world: &World,
-    store: &Store,
     command: u32,
     applied: Applied,
 ) -> Result<Ended, NoMemory>
     requires id { command < length world.now.schema.commands }
-    ensures effect { IfOk result (λ ending. ending.effect
-        ≡ outcome_effect world.now command (outcome_in applied store.now)) }
-    ensures changes { IfOk result (λ ending.
-        IfOk ending.effect (λ _. committed ending.changes store.now ≡ committed applied.changes store.now)) }
+    ensures effect { (store : Contents) → IfOk result (λ ending. ending.effect
+        ≡ outcome_effect world.now command (outcome_in applied store)) }
+    ensures changes { IfOk result (λ ending. IfOk ending.effect (λ _.
+        ending.changes ≡ applied.changes)) }
     ensures none { IfOk result (λ ending. OnErr ending.effect (ending.changes ≡ [])) }
 {
-    let _ = store;
     if is_true(applied.enable) {
         return Ok(failed(alloc, Text::of(alloc, b"The capability oob is not built")?));
     }
@@ -140,7 +138,7 @@ fn applied_ending(
     ensures none { IfOk result (λ ending. OnErr ending.effect (ending.changes ≡ [])) }
 {
     match apply(alloc, plan, store, setting.facts()) {
-        Ok(applied) => outcome_ending(alloc, setting.world(), store, command, applied),
+        Ok(applied) => outcome_ending(alloc, setting.world(), command, applied),
         Err(fault) => Ok(failed(alloc, failure_text(alloc, fault)?)),
     }
 }

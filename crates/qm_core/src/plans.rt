@@ -2,6 +2,7 @@
 
 ghost use Rattle.std.specs.Prelude.{◌≡◌, ◌<◌, length, IfOk, IfSome};
 ghost use Rattle.std.specs.Option.{option_copied};
+ghost use Rattle.qm_json.specs.declared.value.Json.{Json};
 ghost use Rattle.qm_plan.specs.Plans.{arguments_of, plan_of};
 ghost use Rattle.qm_core.specs.Planned.{call_with, command_by, command_for, plain_recipe, plan_for, recipe_at};
 
@@ -37,10 +38,9 @@ pub(crate) fn call(command: Option<u32>, request: Option<Shared<Json>>) -> Optio
     }
 }
 
-fn plain_plan(alloc: Global, arguments: Option<&Json>) -> Plan
-    ensures { result ≡ plan_of plain_recipe (arguments_of (option_copied arguments.entry)) }
+fn plain_plan(alloc: Global) -> Plan
+    ensures { (arguments : Json) → result ≡ plan_of plain_recipe arguments }
 {
-    let _ = arguments;
     Plan {
         acts: Items::new(alloc),
         ret: Template::Const(Members::new(alloc).into_json()),
@@ -58,7 +58,7 @@ fn command_plan(
 {
     match world.binding.recipes.as_slice().get(command as usize) {
         Some(recipe) => plan_with(alloc, recipe, arguments),
-        None => Ok(plain_plan(alloc, arguments)),
+        None => Ok(plain_plan(alloc)),
     }
 }
 
