@@ -60,13 +60,13 @@ is_true (Some true) = true
 is_true _ = false
 
 -- what a plan that does not fail returns; execution out of band is not built
-abbrev pub outcome_effect : World → ℕ → Outcome → Effect
-outcome_effect world command outcome =
-    if is_true outcome.enable then Err (codes "The capability oob is not built")
-    else returned outcome.ret (admission_of (return_misfit world.schema command outcome.ret))
+abbrev pub outcome_effect : World → ℕ → Option Bool → Json → Effect
+outcome_effect world command enable value =
+    if is_true enable then Err (codes "The capability oob is not built")
+    else returned value (admission_of (return_misfit world.schema command value))
 
 abbrev pub applied_effect : World → ℕ → Result Outcome ApplyFault → Effect
-applied_effect world command (Ok outcome) = outcome_effect world command outcome
+applied_effect world command (Ok outcome) = outcome_effect world command outcome.enable outcome.ret
 applied_effect world command (Err fault) = Err (failure_text fault)
 
 -- what comes of the command of this name and number, by its plan and the store

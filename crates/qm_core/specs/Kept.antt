@@ -36,11 +36,11 @@ pub record IsSession (past : List Entry) (session : Session) : Type 0 where
   pub overrun : session.overrun ≡ has_overrun 1 past
 
 -- what is kept of the running request, and of its command that takes effect
-pub record IsRunning (world : World) (past : List Entry) (running : Option Request) (command : Option ℕ) : Type 0 where
+pub record IsRunning (world : World) (past : List Entry) (running : Option Request) (kept : Option ℕ) : Type 0 where
   pub request : running ≡ running_of past
   pub of_first : IsOfFirst running
-  pub command : command ≡ command_in world (running_of past)
-  pub known : IfSome command (λ c. c < length world.schema.commands)
+  pub command : kept ≡ command_in world (running_of past)
+  pub known : IfSome kept (λ command. command < length world.schema.commands)
 
 -- the fields are what stands in the journal, which is legal and has its places
 pub record IsSound (m : Fields) : Type 0 where

@@ -3,8 +3,8 @@
 ghost use Rattle.std.specs.Prelude.{◌≡◌, ◌≢◌, ◌<◌, [], IfOk, OnErr, Ok, Err, length};
 ghost use Rattle.qm_base.specs.Names.{is_named};
 ghost use Rattle.qm_admit.specs.Misfits.{return_misfit, verdict_of as admission_of};
-ghost use Rattle.qm_plan.specs.Applying.{applied_of, outcome_in};
-ghost use Rattle.qm_plan.specs.Stores.{Contents, committed};
+ghost use Rattle.qm_plan.specs.Applying.{applied_of};
+ghost use Rattle.qm_plan.specs.Stores.{committed};
 ghost use Rattle.qm_plan.specs.declared.applied.ApplyFault.TheVariants.{Memory};
 ghost use Rattle.qm_core.specs.Effects.{command_name_at, effect_of, facts_of, failure_text, full_text, is_true, named_effect, outcome_effect, applied_effect, returned as returned_by, unbuilt_names, unbuilt_text};
 ghost use Rattle.qm_core.specs.State.{left_by};
@@ -103,8 +103,8 @@ fn outcome_ending(
     applied: Applied,
 ) -> Result<Ended, NoMemory>
     requires id { command < length world.now.schema.commands }
-    ensures effect { (store : Contents) → IfOk result (λ ending. ending.effect
-        ≡ outcome_effect world.now command (outcome_in applied store)) }
+    ensures effect { IfOk result (λ ending. ending.effect
+        ≡ outcome_effect world.now command applied.enable applied.ret) }
     ensures changes { IfOk result (λ ending. IfOk ending.effect (λ _.
         ending.changes ≡ applied.changes)) }
     ensures none { IfOk result (λ ending. OnErr ending.effect (ending.changes ≡ [])) }

@@ -248,7 +248,12 @@ impl Monitor {
             changes,
             opens_commands,
         } = answer_to(
-            alloc, &self.world, &self.store, request, self.command, &plan,
+            alloc,
+            &self.world,
+            &self.store,
+            request,
+            self.command,
+            &plan,
         )?;
         let moment = moment.max(self.last_moment);
         let bytes = self.finish_room(session, number, &plan, &reply, moment)?;
