@@ -46,15 +46,23 @@ fn play(alloc: Global, monitor: &mut Monitor) -> Result<(), Fail> {
     fall(monitor)
 }
 
-/// Writes the journal of what was played.
+/// Writes the journal of what is played with a monitor.
+fn write_played(
+    alloc: Global,
+    monitor: &mut Monitor,
+    sink: &mut MemorySink,
+) -> Result<Result<(), HistoryFault>, Fail> {
+    play(alloc, monitor)?;
+    Ok(write_history(alloc, monitor.journal(), sink))
+}
+
 fn write(alloc: Global, sink: &mut MemorySink) -> Result<Result<(), HistoryFault>, Fail> {
     let limits = Limits {
         entries: 20,
         text: 10_000,
     };
     let mut monitor = opened(alloc, limits)?;
-    play(alloc, &mut monitor)?;
-    Ok(write_history(alloc, monitor.journal(), sink))
+    write_played(alloc, &mut monitor, sink)
 }
 
 #[test]

@@ -1,5 +1,9 @@
 //! One session from its opening to its end.
 
+ghost use Rattle.std.specs.Prelude.{◌≡◌, []};
+ghost use Rattle.qm_core.specs.Legal.{past_of};
+ghost use Rattle.qm_core.specs.Standing.{sessions_of};
+
 use crate::playing::{GREETING, answer_text, line_at, opened, taken};
 use crate::worlds::prelude_world;
 use qm_base::Text;
@@ -13,6 +17,12 @@ fn has_answered_one(monitor: &Monitor) -> bool {
     monitor.running() == None && monitor.is_known(1) && monitor.admitted(1) == 1
 }
 
+fn open(alloc: Global, monitor: &mut Monitor) -> Result<u32, Fail>
+    requires { sessions_of (past_of monitor.old.journal) ≡ [] }
+{
+    Ok(monitor.open(alloc)?)
+}
+
 /// The session that a new monitor opens.
 fn first_session(alloc: Global) -> Result<u32, Fail> {
     let limits = Limits {
@@ -20,7 +30,7 @@ fn first_session(alloc: Global) -> Result<u32, Fail> {
         text: 1000,
     };
     let mut monitor = Monitor::new(alloc, prelude_world(alloc)?, limits)?;
-    Ok(monitor.open(alloc)?)
+    open(alloc, &mut monitor)
 }
 
 fn end_and_drop(monitor: &mut Monitor) -> Result<(), Fail> {
@@ -44,7 +54,9 @@ fn play(rt: &(impl Abort + AllocGlobal), monitor: &mut Monitor) -> Result<(), Fa
     assert_eq!(rt; lines.len(), 2);
     assert_eq!(rt; line_at(&lines, 0), GREETING.as_bytes());
     assert_eq!(rt; line_at(&lines, 1), REPLY.as_bytes());
-    end_and_drop(monitor)
+    end_and_drop(monitor)?;
+    assert!(rt; is_closed_after(monitor, 7));
+    Ok(())
 }
 
 #[test]
@@ -55,9 +67,7 @@ fn a_session_from_opening_to_end(rt: HostRuntime) -> Result<(), Fail> {
     };
     assert_eq!(rt; first_session(rt.alloc())?, 1);
     let mut monitor = opened(rt.alloc(), limits)?;
-    play(&rt, &mut monitor)?;
-    assert!(rt; is_closed_after(&monitor, 7));
-    Ok(())
+    play(&rt, &mut monitor)
 }
 
 /// A request whose reply has its id of 4,194,304 bytes.
