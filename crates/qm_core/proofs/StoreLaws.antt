@@ -6,10 +6,10 @@ use Rattle.std.specs.Bool.{if◌then◌else◌}
 use Rattle.qm_plan.specs.{Applying.Outcome, Applying.applied_of, Stores.Contents, declared.applied.ApplyFault.ApplyFault}
 use Rattle.qm_core.specs.{Effects.Effect, Effects.effect_of, Effects.facts_of, Planned.command_by, Planned.command_for, Planned.plan_for, Planned.planned_for, Replies.effect_member, Replies.id_of, Replies.id_members, Replies.is_return, Replies.outcome_of, Replies.reply_to, State.stored, State.effect_store, State.verdict_store, State.left_by, Verdicts.verdict_of}
 use Rattle.qm_core.specs.declared.{inputs.Input.Input, inputs.Input.TheVariants.Doc, inputs.Input.TheVariants.Bad, requests.Request.Request, world.World.World}
-use Rattle.qm_core.specs.Verdicts.{Verdict, Refused, Run}
+use Rattle.qm_core.specs.Verdicts.{Refusal, Verdict, Refused, Run}
 
 -- the members of an object are these
-members_back : (members : List Member) → members_of (Obj members) ≡ members
+pub members_back : (members : List Member) → members_of (Obj members) ≡ members
 members_back members = ap layer_members (outs-Obj members)
 
 return_first : (value : Json) (ids : List Member) → is_return (Obj (effect_member (Ok value) ∷ ids)) ≡ true
@@ -52,3 +52,9 @@ run_by (Run c) command told = (let same : command ≡ c = cc in ap Run same)
 -- the verdict on a request whose command takes effect
 pub run_by_command : (world : World) (request : Request) (command : ℕ) → Some command ≡ command_for world request → Run command ≡ verdict_of world request.mode request.input
 run_by_command world request = run_by (verdict_of world request.mode request.input)
+
+-- the reply to a request that is refused is an error
+pub refused-error : (world : World) (store : Contents) (request : Request) (refusal : Refusal) → verdict_of world request.mode request.input ≡ Refused refusal → is_return (reply_to world store request) ≡ false
+refused-error world store request refusal refused =
+    ap (λ (v : Verdict). is_return (Obj (outcome_of world store request v ∷ id_of request.input))) refused
+    ∙ ap (λ (l : List Member). has_name l (codes "return")) (members_back _) ∙ ids_are_no_return request.input
