@@ -17,7 +17,7 @@ use Rattle.qm_core.proofs.Replied.{admissions, has_number, is_named, places, sta
 -- the number of a request that was admitted is within the admissions of its session
 pub admitted-number : (s k : ℕ) (past : List Entry) → AllFollow past → list_any (admits_request s k) past ≡ true → (0 < k) × (k ≤ admitted_of s past)
 admitted-number s k [] legal h = absurd cc
-admitted-number s k (e ∷ past) legal h = elim (or_cases _ _ h) [
+admitted-number s k (e ∷ past) legal h = elim (or_cases (admits_request s k e) (list_any (admits_request s k) past) h) [
   | inl here ↦ of_entry e legal.0 here
   | inr before ↦ (let low = admitted-number s k past legal.1 before in let more = admitted-grows s e past in (low.0, omega (arith, low.1, more)))
 ] where

@@ -68,12 +68,12 @@ waits-less P false left ws some all = all
 pub hold : (P : Lane → Request → Type 0) (e : Entry) (past : List Entry) → IsGood P past e → Holding P past → Holding P (e ∷ past)
 hold P (Open t) past good h = record { waits = h.waits; runs = h.runs; opens = h.opens }
 hold P (Admit t k lane input) past good h = record {
-  waits = λ s. waits-more P (t == s) lane _ (waiting_of s past) good (h.waits s);
+  waits = λ s. waits-more P (t == s) lane record { session = t; number = k; mode = mode_of t past; input = input } (waiting_of s past) good (h.waits s);
   runs = h.runs;
-  opens = λ s q is. opens-more P (t == s) lane _ q (open_out_of_band_of s past) good (h.opens s q) is;
+  opens = λ s q is. opens-more P (t == s) lane record { session = t; number = k; mode = mode_of t past; input = input } q (open_out_of_band_of s past) good (h.opens s q) is;
 }
 hold P (Start t k) past good h = record {
-  waits = λ s. waits-less P (t == s) _ _ (each-filter (P InBand) (λ r. not (r.number == k)) (waiting_of s past) (h.waits s)) (h.waits s);
+  waits = λ s. waits-less P (t == s) (filter (λ r. not (r.number == k)) (waiting_of s past)) (waiting_of s past) (each-filter (P InBand) (λ r. not (r.number == k)) (waiting_of s past) (h.waits s)) (h.waits s);
   runs = λ q is. each-found (P InBand) (λ r. r.number == k) (waiting_of t past) q (h.waits t) is;
   opens = h.opens;
 }

@@ -6,7 +6,7 @@ use Rattle.qm_caps.specs.declared.mode.Lane.{Lane, TheVariants.InBand, TheVarian
 use Rattle.qm_plan.specs.{Stores.Contents, declared.recipes.Plan.Plan}
 use Rattle.qm_core.specs.declared.entries.Entry.{Entry, TheVariants.Admit, TheVariants.Done, TheVariants.OobDone}
 use Rattle.qm_core.specs.declared.{inputs.Input.Input, requests.Request.Request, world.World.World}
-use Rattle.qm_core.specs.{Answers.reply_of, Effects.Effect, Inputs.id_in, Legal.IsLegal, Legal.past_of, State.store_of}
+use Rattle.qm_core.specs.{Answers.reply_of, Effects.Effect, Effects.effect_of, Planned.plan_for, Inputs.id_in, Legal.IsLegal, Legal.past_of, State.store_of}
 use Rattle.qm_core.specs.Replies.{effect_member, id_members, outcome_of, reply_to}
 use Rattle.qm_core.specs.{Verdicts.Verdict, Verdicts.Refused, Verdicts.Run, Verdicts.verdict_of, Standing.running_of, Standing.open_out_of_band_of}
 use Rattle.qm_core.proofs.{Admissions.IsMatched, Admissions.run-matched, Admissions.open-matched, Journals.placed_after, StoreLaws.members_back}
@@ -17,7 +17,7 @@ effect-name (Err text) = refl
 
 outcome-name : (world : World) (store : Contents) (request : Request) (verdict : Verdict) → bytes_eq (outcome_of world store request verdict).name (codes "id") ≡ false
 outcome-name world store request (Refused refusal) = refl
-outcome-name world store request (Run command) = effect-name _
+outcome-name world store request (Run command) = effect-name (effect_of world store command (plan_for world request command))
 
 id-found : (id : Option Json) (m : Member) → bytes_eq m.name (codes "id") ≡ false → value_in (m ∷ id_members id) (codes "id") ≡ id
 id-found None m no = rw no refl
@@ -26,7 +26,7 @@ id-found (Some id) m no = rw no refl
 reply-id : (world : World) (store : Contents) (request : Request) → member_of (reply_to world store request) (codes "id") ≡ id_in request.input
 reply-id world store request =
     let verdict = verdict_of world request.mode request.input in
-    ap (λ (l : List Member). value_in l (codes "id")) (members_back _) ∙ id-found (id_in request.input) (outcome_of world store request verdict) (outcome-name world store request verdict)
+    ap (λ (l : List Member). value_in l (codes "id")) (members_back (outcome_of world store request verdict ∷ id_members (id_in request.input))) ∙ id-found (id_in request.input) (outcome_of world store request verdict) (outcome-name world store request verdict)
 
 answer-id : (world : World) (store : Contents) (request : Option Request) (lane l : Lane) (input : Input) (reply : Json) → IsMatched request lane l input → reply ≡ reply_of world store request → member_of reply (codes "id") ≡ id_in input
 answer-id world store request lane l input reply match answer =

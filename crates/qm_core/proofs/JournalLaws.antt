@@ -1,5 +1,5 @@
 -- The laws of legal pasts, told of journals.
-use Rattle.std.proofs.Common.{◌≡◌, ℕ, ◌+◌, ◌<◌, ◌≤◌, ◌==◌, Bool, true, false, ◌&&◌, Option, Some, None, List, [], ◌∷◌, ◌++◌, reverse, refl, ap, sym, ◌∙◌, subst, append_assoc}
+use Rattle.std.proofs.Common.{◌≡◌, ℕ, ◌+◌, ◌<◌, ◌≤◌, ◌==◌, Bool, true, false, ◌&&◌, Option, Some, None, List, [], ◌∷◌, ◌++◌, reverse, refl, ap, sym, ◌∙◌, subst, append_assoc, arith}
 use Rattle.std.specs.List.{count_by, list_any}
 use Rattle.std.proofs.lemmas.List.{reverse-append}
 use Rattle.qm_caps.specs.declared.mode.Lane.{Lane, TheVariants.InBand, TheVariants.Oob}
@@ -80,6 +80,33 @@ pub out-of-band : (world : World) (before between after : List Entry) (s k : ℕ
 out-of-band world before between after s k lane input plan reply moment legal =
     let at = placed_after world before (Admit s k lane input) between (OobDone s k plan reply moment) after legal in
     sym (open-matched s k lane input (reverse between) (past_of before) at.before at.may.request).of_lane
+
+-- an in-band reply is not before one to an earlier request
+not-overtaken : (world : World) (before : List Entry) (e : Entry) (later : List Entry) (f : Entry) (after : List Entry) (s k j : ℕ) (lane : Lane) →
+    IsLegal world (before ++ e ∷ (later ++ f ∷ after)) → replies_to s k e ≡ true → replies_to s j f ≡ true → j < k →
+    ((t i : ℕ) (plan : Option Plan) (reply : Json) (moment : ℕ) → e ≡ OobDone t i plan reply moment → t ≡ s → i ≡ k → lane ≡ Oob) → lane ≡ Oob
+not-overtaken world before (Open t) later f after s k j lane legal first second low oob = absurd cc
+not-overtaken world before (Admit t i l input) later f after s k j lane legal first second low oob = absurd cc
+not-overtaken world before (Start t i) later f after s k j lane legal first second low oob = absurd cc
+not-overtaken world before (Done t i plan reply moment) later f after s k j lane legal first second low oob =
+    let parts = both (t == s) (i == k) first in
+    let of_session : t ≡ s = equal t s parts.0 in
+    let higher = answered world before later f after t i j plan reply moment legal (subst (λ (u : ℕ). replies_to u j f ≡ true) (sym of_session) second) in
+    absurd (omega (arith, higher, low, equal i k parts.1))
+not-overtaken world before (OobDone t i plan reply moment) later f after s k j lane legal first second low oob =
+    (let parts = both (t == s) (i == k) first in oob t i plan reply moment refl (equal t s parts.0) (equal i k parts.1))
+not-overtaken world before (Take t lines) later f after s k j lane legal first second low oob = absurd cc
+not-overtaken world before (Eof t) later f after s k j lane legal first second low oob = absurd cc
+not-overtaken world before (Drop t cause) later f after s k j lane legal first second low oob = absurd cc
+
+pub overtaken : (world : World) (before between : List Entry) (e : Entry) (later : List Entry) (f : Entry) (after : List Entry) (s k j : ℕ) (lane : Lane) (input : Input) →
+    IsLegal world (before ++ Admit s k lane input ∷ (between ++ e ∷ (later ++ f ∷ after))) → replies_to s k e ≡ true → replies_to s j f ≡ true → j < k → lane ≡ Oob
+overtaken world before between e later f after s k j lane input legal first second low =
+    not-overtaken world (before ++ Admit s k lane input ∷ between) e later f after s k j lane
+    (subst (λ (l : List Entry). IsLegal world l) (sym (append_assoc before (Admit s k lane input ∷ between) (e ∷ (later ++ f ∷ after)))) legal) first second low
+    (λ t i plan reply moment is of_session number. out-of-band world before between (later ++ f ∷ after) s k lane input plan reply moment
+        (subst (λ (x : Entry). IsLegal world (before ++ Admit s k lane input ∷ (between ++ x ∷ (later ++ f ∷ after))))
+        (is ∙ ap (λ (u : ℕ). OobDone u i plan reply moment) of_session ∙ ap (λ (n : ℕ). OobDone s n plan reply moment) number) legal))
 
 pub no-error : (world : World) (before between after : List Entry) (s k : ℕ) (lane : Lane) (input : Input) (plan : Option Plan) (reply : Json) (moment : ℕ) →
     IsLegal world (before ++ Admit s k lane input ∷ (between ++ OobDone s k plan reply moment ∷ after)) → names_out_of_band world input ≡ false → is_return reply ≡ false

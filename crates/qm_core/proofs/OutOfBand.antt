@@ -13,7 +13,7 @@ use Rattle.qm_core.specs.declared.entries.Entry.{Entry, TheVariants.Open, TheVar
 use Rattle.qm_core.specs.declared.{inputs.Input.Input, inputs.Input.TheVariants.Doc, inputs.Input.TheVariants.Bad, requests.Request.Request, world.World.World}
 use Rattle.qm_core.specs.{Inputs.arguments_of, Inputs.is_verb, Inputs.lane_of, Legal.AllFollow, Legal.IsLegal, Legal.past_of, Order.MayFollow, Requests.names_out_of_band, State.store_of, State.stored}
 use Rattle.qm_core.specs.{Planned.planned_for, Planned.plan_for, Planned.command_by, Replies.is_return, Replies.reply_to, Standing.open_out_of_band_of}
-use Rattle.qm_core.specs.Verdicts.{Refusal, VerbNoString, Verdict, Refused, Run, refused_or, first_of, run_of, bad_arguments, misplaced, malformed, allows_out_of_band, command_verdict_of, verb_verdict_of, request_verdict_of, verdict_of}
+use Rattle.qm_core.specs.Verdicts.{Refusal, Malformed, NoVerb, VerbNoString, UnknownCommand, NotOutOfBand, Verdict, Refused, Run, refused_or, first_of, run_of, bad_arguments, misplaced, malformed, allows_out_of_band, command_verdict_of, verb_verdict_of, request_verdict_of, verdict_of}
 use Rattle.qm_core.proofs.{Admissions.open-matched, Journals.placed_after, StoreLaws.refused-error}
 use Rattle.qm_core.proofs.Holding.{Holding, IsGood, hold, none-held}
 
@@ -28,24 +28,24 @@ either-refusal None other h = h
 either-refusal (Some refusal) other h = record { refusal = refusal; is = refl }
 
 run-refusal : (world : World) (lane : Lane) (name : List ℕ) (arguments : Option Json) (command : Option ℕ) → lane ≡ Oob → option_map_or (allows_out_of_band world) command false ≡ false → IsRefusal (run_of world lane name arguments command)
-run-refusal world lane name arguments None oob none = record { refusal = _; is = refl }
-run-refusal world lane name arguments (Some command) oob none = rw (oob, none) record { refusal = _; is = refl }
+run-refusal world lane name arguments None oob none = record { refusal = UnknownCommand name; is = refl }
+run-refusal world lane name arguments (Some command) oob none = rw (oob, none) record { refusal = NotOutOfBand name; is = refl }
 
 -- the command that the verb names may not be run out of band
 verb-refusal : (world : World) (mode : Mode) (value : Json) (verb : Option Member) → value_lane_of mode value ≡ Oob →
     option_map_or (allows_out_of_band world) (option_and_then (place_of (command_names world.schema)) (option_and_then (λ m. string_of m.value) verb)) false ≡ false → IsRefusal (verb_verdict_of world mode value verb)
-verb-refusal world mode value None oob none = record { refusal = _; is = refl }
+verb-refusal world mode value None oob none = record { refusal = NoVerb; is = refl }
 verb-refusal world mode value (Some m) oob none = by_name (string_of m.value) none where
   by_name : (name : Option (List ℕ)) → option_map_or (allows_out_of_band world) (option_and_then (place_of (command_names world.schema)) name) false ≡ false →
       IsRefusal (option_map_or (command_verdict_of world mode value) name (Refused (VerbNoString m.name)))
-  by_name None h = record { refusal = _; is = refl }
+  by_name None h = record { refusal = VerbNoString m.name; is = refl }
   by_name (Some name) h =
-      either-refusal (first_of (bad_arguments value ∷ misplaced mode name ∷ [])) _
+      either-refusal (first_of (bad_arguments value ∷ misplaced mode name ∷ [])) (run_of world (value_lane_of mode value) name (arguments_of value) (place_of (command_names world.schema) name))
       (run-refusal world (value_lane_of mode value) name (arguments_of value) (place_of (command_names world.schema) name) oob h)
 
 oob-refusal : (world : World) (mode : Mode) (input : Input) → lane_of mode input ≡ Oob → names_out_of_band world input ≡ false → IsRefusal (verdict_of world mode input)
-oob-refusal world mode (Doc value) oob none = either-refusal (malformed mode value) _ (verb-refusal world mode value (find is_verb (members_of value)) oob none)
-oob-refusal world mode (Bad bad) oob none = record { refusal = _; is = refl }
+oob-refusal world mode (Doc value) oob none = either-refusal (malformed mode value) (verb_verdict_of world mode value (find is_verb (members_of value))) (verb-refusal world mode value (find is_verb (members_of value)) oob none)
+oob-refusal world mode (Bad bad) oob none = record { refusal = Malformed bad; is = refl }
 
 -- what is open out of band was admitted in that lane
 

@@ -57,4 +57,4 @@ run_by_command world request = run_by (verdict_of world request.mode request.inp
 pub refused-error : (world : World) (store : Contents) (request : Request) (refusal : Refusal) → verdict_of world request.mode request.input ≡ Refused refusal → is_return (reply_to world store request) ≡ false
 refused-error world store request refusal refused =
     ap (λ (v : Verdict). is_return (Obj (outcome_of world store request v ∷ id_of request.input))) refused
-    ∙ ap (λ (l : List Member). has_name l (codes "return")) (members_back _) ∙ ids_are_no_return request.input
+    ∙ ap (λ (l : List Member). has_name l (codes "return")) (members_back (outcome_of world store request (Refused refusal) ∷ id_of request.input)) ∙ ids_are_no_return request.input

@@ -33,14 +33,14 @@ wider m n (Some k) le h = omega (arith, le, h)
 
 start-within : (s : ℕ) (past : List Entry) → IsUpTo (length past) (last_start_of s past)
 start-within s [] = tt
-start-within s (Open t ∷ past) = wider (length past) (length (Open t ∷ past)) _ (omega arith) (start-within s past)
-start-within s (Admit t k lane input ∷ past) = wider (length past) (length (Admit t k lane input ∷ past)) _ (omega arith) (start-within s past)
-start-within s (Start t k ∷ past) = (let more : length past + 1 ≤ length (Start t k ∷ past) = omega arith in wider (length past + 1) (length (Start t k ∷ past)) _ more (up-to (t == s) (length past) _ (start-within s past)))
-start-within s (Done t k plan reply moment ∷ past) = wider (length past) (length (Done t k plan reply moment ∷ past)) _ (omega arith) (start-within s past)
-start-within s (OobDone t k plan reply moment ∷ past) = wider (length past) (length (OobDone t k plan reply moment ∷ past)) _ (omega arith) (start-within s past)
-start-within s (Take t lines ∷ past) = wider (length past) (length (Take t lines ∷ past)) _ (omega arith) (start-within s past)
-start-within s (Eof t ∷ past) = wider (length past) (length (Eof t ∷ past)) _ (omega arith) (start-within s past)
-start-within s (Drop t cause ∷ past) = wider (length past) (length (Drop t cause ∷ past)) _ (omega arith) (start-within s past)
+start-within s (Open t ∷ past) = wider (length past) (length (Open t ∷ past)) (last_start_of s past) (omega arith) (start-within s past)
+start-within s (Admit t k lane input ∷ past) = wider (length past) (length (Admit t k lane input ∷ past)) (last_start_of s past) (omega arith) (start-within s past)
+start-within s (Start t k ∷ past) = (let more : length past + 1 ≤ length (Start t k ∷ past) = omega arith in wider (length past + 1) (length (Start t k ∷ past)) (cond (t == s) (Some (length past + 1)) (last_start_of s past)) more (up-to (t == s) (length past) (last_start_of s past) (start-within s past)))
+start-within s (Done t k plan reply moment ∷ past) = wider (length past) (length (Done t k plan reply moment ∷ past)) (last_start_of s past) (omega arith) (start-within s past)
+start-within s (OobDone t k plan reply moment ∷ past) = wider (length past) (length (OobDone t k plan reply moment ∷ past)) (last_start_of s past) (omega arith) (start-within s past)
+start-within s (Take t lines ∷ past) = wider (length past) (length (Take t lines ∷ past)) (last_start_of s past) (omega arith) (start-within s past)
+start-within s (Eof t ∷ past) = wider (length past) (length (Eof t ∷ past)) (last_start_of s past) (omega arith) (start-within s past)
+start-within s (Drop t cause ∷ past) = wider (length past) (length (Drop t cause ∷ past)) (last_start_of s past) (omega arith) (start-within s past)
 
 -- who was started before precedes who was started after
 earlier-precedes : (m s t : ℕ) (x y : Option ℕ) → IsUpTo m x → IsAfter m y → precedes record { session = s; last_start = x } record { session = t; last_start = y } ≡ true

@@ -53,12 +53,17 @@ pub fn a_step_keeps_the_journal_legal()
         IsLegal old.world old.journal → IsLegal new.world new.journal }
 {}
 
-/// A reply that is an error changes no cell, no tally and no session's mode.
+/// A reply that is an error changes no cell, no tally and no session's mode, and does not stop the
+/// monitor.
 pub fn failed_replies_change_nothing()
     ensures store { (world : World) (past : List Entry) (s k : ℕ) (plan : Option Plan) (reply : Json) (moment : ℕ) →
         is_return reply ≡ false → store_of world (Done s k plan reply moment ∷ past) ≡ store_of world past }
+    ensures out_of_band { (world : World) (past : List Entry) (s k : ℕ) (plan : Option Plan) (reply : Json) (moment : ℕ) →
+        is_return reply ≡ false → store_of world (OobDone s k plan reply moment ∷ past) ≡ store_of world past }
     ensures mode { (past : List Entry) (t s k : ℕ) (plan : Option Plan) (reply : Json) (moment : ℕ) →
         is_return reply ≡ false → mode_of t (Done s k plan reply moment ∷ past) ≡ mode_of t past }
+    ensures stop { (past : List Entry) (s k : ℕ) (plan : Option Plan) (reply : Json) (moment : ℕ) →
+        is_return reply ≡ false → is_stopped (Done s k plan reply moment ∷ past) ≡ is_stopped past }
 {}
 
 /// Each request is answered at most once, and exactly once where its session was drained at some
@@ -88,8 +93,8 @@ pub fn reply_has_its_id()
 {}
 
 /// The in-band requests of a session are started and answered in their order. Once one was
-/// answered, each later reply of the session is to a later request; so a reply that comes before
-/// that to an earlier request is to a request of the lane out of band.
+/// answered, each later reply of the session is to a later request. Where of two replies the later
+/// request's stands first, that request is in the lane out of band.
 pub fn in_band_in_order()
     ensures started { (world : World) (before between after : List Entry) (s k j : ℕ) →
         IsLegal world (before ++ Start s k ∷ (between ++ Start s j ∷ after)) → k < j }
@@ -97,6 +102,10 @@ pub fn in_band_in_order()
         (s k j : ℕ) (plan : Option Plan) (reply : Json) (moment : ℕ) →
         IsLegal world (before ++ Done s k plan reply moment ∷ (between ++ e ∷ after)) →
         replies_to s j e ≡ true → k < j }
+    ensures overtaken { (world : World) (before between : List Entry) (e : Entry)
+        (later : List Entry) (f : Entry) (after : List Entry) (s k j : ℕ) (lane : Lane) (input : Input) →
+        IsLegal world (before ++ Admit s k lane input ∷ (between ++ e ∷ (later ++ f ∷ after))) →
+        replies_to s k e ≡ true → replies_to s j f ≡ true → j < k → lane ≡ Oob }
     ensures in_band { (world : World) (before between after : List Entry)
         (s k : ℕ) (lane : Lane) (input : Input) (plan : Option Plan) (reply : Json) (moment : ℕ) →
         IsLegal world (before ++ Admit s k lane input ∷ (between ++ Done s k plan reply moment ∷ after)) →
