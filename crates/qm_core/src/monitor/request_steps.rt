@@ -1,11 +1,13 @@
-ghost use Rattle.std.specs.Prelude.{◌≡◌, ◌+◌, ◌<◌, ◌^◌, Some, None, true, false, option_map, IfSome, IfOk, IsSome, OnOk, OnErr};
+ghost use Rattle.std.specs.Prelude.{◌≡◌, ◌+◌, ◌-◌, ◌<◌, ◌^◌, ◌==◌, [], ◌∷◌, ◌++◌, drop, length, slice_get, slice_set as set, if◌then◌else◌, Some, None, true, false, option_map, IfSome, IfOk, IsSome, OnOk, OnErr};
 ghost use Rattle.std.specs.Result.{result_err};
 ghost use Rattle.qm_caps.specs.Lanes.{is_in_band};
 ghost use Rattle.qm_caps.specs.Modes.{bound_of};
-ghost use Rattle.qm_core.specs.Inputs.{lane_of};
+ghost use Rattle.qm_core.specs.Inputs.{document_of, lane_of};
+ghost use Rattle.qm_core.specs.Kept.{kept_of};
+ghost use Rattle.qm_queue.specs.Turns.{IsOpened};
 ghost use Rattle.qm_core.specs.Legal.{past_of};
 ghost use Rattle.qm_core.specs.Next.{Next, Admit, Start, start_entry};
-ghost use Rattle.qm_core.specs.Planned.{admitted_as, started_of};
+ghost use Rattle.qm_core.specs.Planned.{admitted_as, call_of, started_of};
 ghost use Rattle.qm_core.specs.Standing.{is_ended, is_stopped, admitted_of, in_flight_of, mode_of, running_of, open_out_of_band_of, starting_of, named_of, next_request};
 ghost use Rattle.qm_core.specs.declared.entries.Entry.TheVariants as entry;
 
@@ -15,11 +17,13 @@ use crate::monitor::Monitor;
 use crate::offers::{Offer, Owners};
 use crate::plans::{call, command};
 use crate::requests::{Admitted, Begun, Request, RequestName, Started, Waiting};
+use crate::sessions::Session;
+use crate::world::World;
 use qm_base::Shared;
 use qm_caps::{Lane, Mode, bound, classify};
 use qm_json::Json;
 use qm_plan::Call;
-use qm_queue::TurnItem;
+use qm_queue::{TurnItem, TurnQueue};
 
 fn lane(mode: Mode, input: &Input) -> Lane
     ensures { result ≡ lane_of mode input.now }
@@ -35,6 +39,76 @@ fn lane(mode: Mode, input: &Input) -> Lane
 struct Admission {
     lane: Lane,
     bytes: u64,
+}
+
+/// Lets a request that was admitted wait for its turn, or be open out of band, and makes its call in
+/// the latter case. It takes no memory.
+fn take_in(
+    world: &World,
+    state: &mut Session,
+    turns: &mut TurnQueue,
+    request: Request,
+    lane: Lane,
+    document: Option<Shared<Json>>,
+) -> Option<Call>
+    requires place { is_in_band lane ≡ true → length state.old.waiting.items < state.old.waiting.places }
+    requires opened { IsOpened request.session turns.old }
+    requires document { document ≡ document_of request.input }
+    ensures kept { kept_of state.new ≡ record (kept_of state.old) {
+        admitted = request.number;
+        waiting = if is_in_band lane then state.old.waiting.items ++ request ∷ [] else state.old.waiting.items;
+        open_out_of_band = if is_in_band lane then state.old.open_out_of_band else Some request;
+    } }
+    ensures places { state.new.waiting.places ≡ state.old.waiting.places }
+    ensures turns { turns.new ≡ (if is_in_band lane
+        then set turns.old (request.session - 1) (Some record { session = request.session; last_start = state.old.last_start })
+        else turns.old) }
+    ensures call { result ≡ (if is_in_band lane then None else call_of world.now request) }
+{
+    let session = request.session;
+    state.admitted = request.number;
+    if lane.is_in_band() {
+        let last_start = state.last_start;
+        state.waiting.put(Waiting::new(request, document));
+        turns.put(TurnItem {
+            session,
+            last_start,
+        });
+        return None;
+    }
+    let call = call(command(world, &request), document);
+    state.open_out_of_band = Some(request);
+    call
+}
+
+/// Takes the oldest waiting request of a session out, and puts the session behind those that wait
+/// too. It takes no memory.
+fn begin(state: &mut Session, turns: &mut TurnQueue, session: u32, at: u64) -> Begun
+    requires some { 0 < length state.old.waiting.items }
+    requires opened { IsOpened session turns.old }
+    ensures request { Some result.request ≡ slice_get state.old.waiting.items 0 }
+    ensures document { result.document ≡ document_of result.request.input }
+    ensures kept { kept_of state.new
+        ≡ record (kept_of state.old) { waiting = drop 1 state.old.waiting.items; last_start = Some at } }
+    ensures places { state.new.waiting.places ≡ state.old.waiting.places }
+    ensures turns { turns.new ≡ set turns.old (session - 1) (if length (drop 1 state.old.waiting.items) == 0
+        then None
+        else Some record { session = session; last_start = Some at }) }
+{
+    let Some(begun) = state.waiting.take() else {
+        unreachable!();
+    };
+    let last_start = Some(at);
+    state.last_start = last_start;
+    if state.waiting.len() == 0 {
+        turns.remove(session);
+    } else {
+        turns.put(TurnItem {
+            session,
+            last_start,
+        });
+    }
+    begun
 }
 
 /// A request to be started, and the bytes of its entry.
@@ -81,31 +155,6 @@ impl Monitor {
         Ok(Admission { lane, bytes })
     }
 
-    /// Lets a request that was admitted wait in its lane, and makes its call where that is out of
-    /// band.
-    fn take_in(
-        &mut self,
-        request: Request,
-        lane: Lane,
-        document: Option<Shared<Json>>,
-    ) -> Option<Call> {
-        let session = request.session;
-        let state = &mut self.sessions[session as usize - 1];
-        state.admitted = request.number;
-        if lane.is_in_band() {
-            let last_start = state.last_start;
-            state.waiting.put(Waiting::new(request, document));
-            self.turns.put(TurnItem {
-                session,
-                last_start,
-            });
-            return None;
-        }
-        let call = call(command(self.world.world(), &request), document);
-        state.open_out_of_band = Some(request);
-        call
-    }
-
     /// Admits the input of an offer, in the lane that is its own, and answers its number. It takes
     /// no memory.
     ///
@@ -130,7 +179,7 @@ impl Monitor {
             waiting,
             document,
         } = offer.spend();
-        let state = &self.sessions[session as usize - 1];
+        let state = &mut self.sessions[session as usize - 1];
         let number = state.admitted + 1;
         let request = Request {
             session,
@@ -138,7 +187,14 @@ impl Monitor {
             mode: state.mode,
             input: waiting,
         };
-        let call = self.take_in(request, lane, document);
+        let call = take_in(
+            self.world.world(),
+            state,
+            &mut self.turns,
+            request,
+            lane,
+            document,
+        );
         self.journal.put(
             Entry::Admit {
                 session,
@@ -183,23 +239,6 @@ impl Monitor {
         Ok(Starting { name, bytes })
     }
 
-    /// Takes the oldest waiting request of a session out, and puts the session behind the others.
-    fn begin(&mut self, session: u32, at: u64) -> Option<Begun> {
-        let state = &mut self.sessions[session as usize - 1];
-        let begun = state.waiting.take();
-        let last_start = Some(at);
-        state.last_start = last_start;
-        if state.waiting.len() == 0 {
-            self.turns.remove(session);
-        } else {
-            self.turns.put(TurnItem {
-                session,
-                last_start,
-            });
-        }
-        begun
-    }
-
     /// Starts the least waiting request of the session whose turn it is. It takes no memory.
     ///
     /// `Stopping`: a command has stopped the monitor. `Nothing`: a request runs, or none waits in
@@ -213,9 +252,8 @@ impl Monitor {
         let Starting { name, bytes } = self.may_start()?;
         let RequestName { session, number } = name;
         let at = self.journal.len() + 1;
-        let Some(Begun { request, document }) = self.begin(session, at) else {
-            unreachable!();
-        };
+        let state = &mut self.sessions[session as usize - 1];
+        let Begun { request, document } = begin(state, &mut self.turns, session, at);
         let command = command(self.world.world(), &request);
         self.running = Some(request);
         self.command = command;

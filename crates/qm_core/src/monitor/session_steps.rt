@@ -1,4 +1,4 @@
-ghost use Rattle.std.specs.Prelude.{◌≡◌, ◌≢◌, ◌+◌, ◌<◌, ◌≤◌, length, Err, IfOk, OnOk, false, true};
+ghost use Rattle.std.specs.Prelude.{◌≡◌, ◌≢◌, ◌+◌, ◌<◌, ◌≤◌, [], ◌∷◌, ◌++◌, length, None, Err, IfOk, OnOk, OnErr, false, true};
 ghost use Rattle.std.specs.Result.{result_err};
 ghost use Rattle.qm_core.specs.Drained.{is_drained};
 ghost use Rattle.qm_core.specs.Legal.{past_of};
@@ -17,7 +17,9 @@ use crate::monitor::Monitor;
 use crate::outbox::Copies;
 use crate::sessions::Session;
 use crate::sizes::drop_size;
+use qm_base::NoMemory;
 use qm_caps::greeting;
+use qm_queue::TurnQueue;
 use std::alloc::Global;
 
 fn cause_fault(cause: Cause) -> StepFault
@@ -35,6 +37,26 @@ fn cause_fault(cause: Cause) -> StepFault
 struct Opening {
     session: u32,
     bytes: u64,
+}
+
+/// One session more, and its place in the queue of turns. An error leaves both as they were.
+fn add(
+    sessions: &mut Vec<Session>,
+    turns: &mut TurnQueue,
+    session: Session,
+) -> Result<(), NoMemory>
+    ensures sessions { OnOk result (sessions.new.items ≡ sessions.old.items ++ session ∷ []) }
+    ensures turns { OnOk result (turns.new ≡ turns.old ++ None ∷ []) }
+    ensures err { OnErr result ((sessions.new.items ≡ sessions.old.items) × (turns.new ≡ turns.old)) }
+{
+    if sessions.push(session).is_err() {
+        return Err(NoMemory);
+    }
+    if turns.open().is_err() {
+        sessions.pop();
+        return Err(NoMemory);
+    }
+    Ok(())
 }
 
 impl Monitor {
@@ -61,18 +83,6 @@ impl Monitor {
         Ok(Opening { session, bytes })
     }
 
-    /// One session more, and its place in the queue of turns. An error leaves both as they were.
-    fn add_session(&mut self, session: Session) -> Result<(), StepFault> {
-        if self.sessions.push(session).is_err() {
-            return Err(StepFault::Memory);
-        }
-        if self.turns.open().is_err() {
-            self.sessions.pop();
-            return Err(StepFault::Memory);
-        }
-        Ok(())
-    }
-
     /// Opens the next session, puts the greeting into its outbox, and answers its number.
     ///
     /// `Stopping`: a command has stopped the monitor. `SessionsFull`: as many sessions were opened
@@ -89,7 +99,7 @@ impl Monitor {
         let greeting = greeting(alloc)?;
         let mut state = Session::new(alloc)?;
         state.send(line(alloc, &greeting)?)?;
-        self.add_session(state)?;
+        add(&mut self.sessions, &mut self.turns, state)?;
         self.open_count += 1;
         self.journal.put(Entry::Open { session }, bytes);
         Ok(session)
