@@ -49,18 +49,15 @@ is-started s (Admit t k lane input ∷ past) legal =
     } where
       higher : t ≡ s → last_started_of s past ≤ admitted_of s past → last_started_of s past < k
       higher is low = (let of_session : admitted_of t past ≡ admitted_of s past = ap (λ (u : ℕ). admitted_of u past) is in omega (arith, legal.0.next, low, of_session))
-is-started s (Start t k ∷ past) legal = either (t == s) refl where
+is-started s (Start t k ∷ past) legal = either (t == s) refl (is-started s past legal.1) where
   b : Begins past t k
   b = begins past t k legal.0
-
-  before : IsStarted s past
-  before = is-started s past legal.1
 
   runs_it : (q : Request) → running_of (Start t k ∷ past) ≡ Some q → b.request ≡ q
   runs_it q h = (let e : Some b.request ≡ Some q = sym (begun past t k b legal.1).runs ∙ h in cc)
 
-  either : (c : Bool) → (t == s) ≡ c → IsStarted s (Start t k ∷ past)
-  either true h =
+  either : (c : Bool) → (t == s) ≡ c → IsStarted s past → IsStarted s (Start t k ∷ past)
+  either true h before =
       let is : t ≡ s = equal t s h in
       let started = begun past t k b legal.1 in
       let here : last_started_of s (Start t k ∷ past) ≡ k = rw h refl in
@@ -72,7 +69,7 @@ is-started s (Start t k ∷ past) legal = either (t == s) refl where
         runs = λ q g session. ap (λ (r : Request). r.number) (sym (runs_it q g)) ∙ b.number ∙ sym here;
         within = omega (arith, here, low, more);
       }
-  either false h =
+  either false h before =
       let here : last_started_of s (Start t k ∷ past) ≡ last_started_of s past = rw h refl in
       let left : waiting_of s (Start t k ∷ past) ≡ waiting_of s past = rw h refl in
       let more = admitted-grows s (Start t k) past in
@@ -143,26 +140,26 @@ some_is q r h = cc
 opens-last : (s : ℕ) (past : List Entry) (q : Request) → AllFollow past → open_out_of_band_of s past ≡ Some q → q.number ≡ admitted_of s past
 opens-last s [] q legal h = absurd cc
 opens-last s (Open t ∷ past) q legal h = opens-last s past q legal.1 h ∙ sym (no-more s (Open t) past refl)
-opens-last s (Admit t k lane input ∷ past) q legal h = by_lane (t == s) lane refl h where
+opens-last s (Admit t k lane input ∷ past) q legal h = by_lane (t == s) lane refl (opens-last s past q legal.1) h where
   more : admitted_of s (Admit t k lane input ∷ past) ≡ unit (t == s) + admitted_of s past
   more = count-cons (admits s) (Admit t k lane input) past
 
   next : t ≡ s → k ≡ admitted_of s past + 1
   next is = legal.0.next ∙ ap (λ (u : ℕ). admitted_of u past + 1) is
 
-  by_lane : (b : Bool) (l : Lane) → (t == s) ≡ b →
+  by_lane : (b : Bool) (l : Lane) → (t == s) ≡ b → (open_out_of_band_of s past ≡ Some q → q.number ≡ admitted_of s past) →
       cond (b && not (is_in_band l)) (Some record { session = t; number = k; mode = mode_of t past; input = input }) (open_out_of_band_of s past) ≡ Some q → q.number ≡ admitted_of s (Admit t k lane input ∷ past)
-  by_lane true InBand e g =
+  by_lane true InBand e before g =
       let none : open_out_of_band_of s past ≡ None = subst (λ (u : ℕ). open_out_of_band_of u past ≡ None) (equal t s e) legal.0.answered in
       absurd (let no : None ≡ Some q = sym none ∙ g in cc)
-  by_lane true Oob e g =
+  by_lane true Oob e before g =
       let number : k ≡ q.number = ap (λ (r : Request). r.number) (some_is _ q g) in
       let one : unit (t == s) ≡ 1 = ap (λ (c : Bool). unit c) e in
       omega (arith, number, next (equal t s e), more, one)
-  by_lane false l e g =
-      let before = opens-last s past q legal.1 g in
+  by_lane false l e before g =
+      let last = before g in
       let zero_more : unit (t == s) ≡ 0 = ap (λ (c : Bool). unit c) e in
-      omega (arith, before, more, zero_more)
+      omega (arith, last, more, zero_more)
 opens-last s (Start t k ∷ past) q legal h = opens-last s past q legal.1 h ∙ sym (no-more s (Start t k) past refl)
 opens-last s (Done t k plan reply moment ∷ past) q legal h = opens-last s past q legal.1 h ∙ sym (no-more s (Done t k plan reply moment) past refl)
 opens-last s (OobDone t k plan reply moment ∷ past) q legal h = left (t == s) h (opens-last s past q legal.1) ∙ sym (no-more s (OobDone t k plan reply moment) past refl) where

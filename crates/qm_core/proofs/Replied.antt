@@ -186,12 +186,9 @@ stands s k (OobDone t j plan reply moment ∷ past) legal =
     let replies = count-cons (replies_to s k) e past in
     let moves = oob-moves s k t j plan reply moment past legal.0.request in
     stands-same s k e past (omega (arith, replies, moves)) (no-more s e past refl) (λ h. h) (stands s k past legal.1)
-stands s k (Admit t j lane input ∷ past) legal = admitted (t == s) refl where
+stands s k (Admit t j lane input ∷ past) legal = admitted (t == s) refl (stands s k past legal.1) where
   e : Entry
   e = Admit t j lane input
-
-  before : Stands s k past
-  before = stands s k past legal.1
 
   more : places s k (e ∷ past) ≡ places s k past + unit (t == s && j == k)
   more =
@@ -199,8 +196,8 @@ stands s k (Admit t j lane input ∷ past) legal = admitted (t == s) refl where
       let added = stands-more s k t j lane input past legal.0.answered in
       omega (arith, replies, added)
 
-  admitted : (c : Bool) → (t == s) ≡ c → Stands s k (e ∷ past)
-  admitted true h =
+  admitted : (c : Bool) → (t == s) ≡ c → Stands s k past → Stands s k (e ∷ past)
+  admitted true h before =
       let is : t ≡ s = equal t s h in
       let count : admitted_of s (e ∷ past) ≡ 1 + admitted_of s past = count-cons (admits s) e past ∙ rw h refl in
       let next : j ≡ admitted_of s past + 1 = rw is at legal.0.next in
@@ -210,7 +207,7 @@ stands s k (Admit t j lane input ∷ past) legal = admitted (t == s) refl where
         most = omega (arith, more, here, known, before.most);
         all = λ g. (let exact = before.all g in omega (arith, more, here, known, exact));
       }
-  admitted false h =
+  admitted false h before =
       let here : unit (t == s && j == k) ≡ 0 = ap (λ (c : Bool). unit (c && j == k)) h in
       let count : admitted_of s (e ∷ past) ≡ admitted_of s past = count-cons (admits s) e past ∙ rw h (omega arith) in
       stands-same s k e past (omega (arith, more, here)) count (λ g. g) before
