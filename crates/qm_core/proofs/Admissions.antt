@@ -62,12 +62,12 @@ pub run-matched : (s k : ℕ) (lane : Lane) (input : Input) (later past : List E
     named_of (running_of (later ++ Admit s k lane input ∷ past)) ≡ Some record { session = s; number = k } → IsMatched (running_of (later ++ Admit s k lane input ∷ past)) lane InBand input
 run-matched s k lane input later past legal h =
     let runs = named _ s k h in
-    let match = (matched s k lane input later past legal).runs runs.found runs.is runs.session runs.number in
-    record { found = runs.found; is = runs.is; of_lane = match.0; of_input = match.1 }
+    let it = (matched s k lane input later past legal).runs runs.found runs.is runs.session runs.number in
+    record { found = runs.found; is = runs.is; of_lane = it.0; of_input = it.1 }
 
 pub open-matched : (s k : ℕ) (lane : Lane) (input : Input) (later past : List Entry) → AllFollow (later ++ Admit s k lane input ∷ past) →
     named_of (open_out_of_band_of s (later ++ Admit s k lane input ∷ past)) ≡ Some record { session = s; number = k } → IsMatched (open_out_of_band_of s (later ++ Admit s k lane input ∷ past)) lane Oob input
 open-matched s k lane input later past legal h =
     let opens = named _ s k h in
-    let match = (matched s k lane input later past legal).opens s opens.found opens.is opens.session opens.number in
-    record { found = opens.found; is = opens.is; of_lane = match.0; of_input = match.1 }
+    let it = (matched s k lane input later past legal).opens s opens.found opens.is opens.session opens.number in
+    record { found = opens.found; is = opens.is; of_lane = it.0; of_input = it.1 }

@@ -20,8 +20,8 @@ outcome-name world store request (Refused refusal) = refl
 outcome-name world store request (Run command) = effect-name (effect_of world store command (plan_for world request command))
 
 id-found : (id : Option Json) (m : Member) → bytes_eq m.name (codes "id") ≡ false → value_in (m ∷ id_members id) (codes "id") ≡ id
-id-found None m no = rw no refl
-id-found (Some id) m no = rw no refl
+id-found None m other = rw other refl
+id-found (Some id) m other = rw other refl
 
 reply-id : (world : World) (store : Contents) (request : Request) → member_of (reply_to world store request) (codes "id") ≡ id_in request.input
 reply-id world store request =
@@ -29,21 +29,21 @@ reply-id world store request =
     ap (λ (l : List Member). value_in l (codes "id")) (members_back (outcome_of world store request verdict ∷ id_members (id_in request.input))) ∙ id-found (id_in request.input) (outcome_of world store request verdict) (outcome-name world store request verdict)
 
 answer-id : (world : World) (store : Contents) (request : Option Request) (lane l : Lane) (input : Input) (reply : Json) → IsMatched request lane l input → reply ≡ reply_of world store request → member_of reply (codes "id") ≡ id_in input
-answer-id world store request lane l input reply match answer =
-    ap (λ (r : Json). member_of r (codes "id")) (answer ∙ ap (reply_of world store) match.is) ∙ reply-id world store match.found ∙ ap id_in match.of_input
+answer-id world store request lane l input reply it answer =
+    ap (λ (r : Json). member_of r (codes "id")) (answer ∙ ap (reply_of world store) it.is) ∙ reply-id world store it.found ∙ ap id_in it.of_input
 
 pub done-id : (world : World) (before between after : List Entry) (s k : ℕ) (lane : Lane) (input : Input) (plan : Option Plan) (reply : Json) (moment : ℕ) →
     IsLegal world (before ++ Admit s k lane input ∷ (between ++ Done s k plan reply moment ∷ after)) → member_of reply (codes "id") ≡ id_in input
 done-id world before between after s k lane input plan reply moment legal =
     let past = reverse between ++ Admit s k lane input ∷ past_of before in
-    let at = placed_after world before (Admit s k lane input) between (Done s k plan reply moment) after legal in
-    let match = run-matched s k lane input (reverse between) (past_of before) at.before at.may.running in
-    answer-id world (store_of world past) (running_of past) lane InBand input reply match at.answer.answer
+    let here = placed_after world before (Admit s k lane input) between (Done s k plan reply moment) after legal in
+    let it = run-matched s k lane input (reverse between) (past_of before) here.before here.may.running in
+    answer-id world (store_of world past) (running_of past) lane InBand input reply it here.answer.answer
 
 pub oob-id : (world : World) (before between after : List Entry) (s k : ℕ) (lane : Lane) (input : Input) (plan : Option Plan) (reply : Json) (moment : ℕ) →
     IsLegal world (before ++ Admit s k lane input ∷ (between ++ OobDone s k plan reply moment ∷ after)) → member_of reply (codes "id") ≡ id_in input
 oob-id world before between after s k lane input plan reply moment legal =
     let past = reverse between ++ Admit s k lane input ∷ past_of before in
-    let at = placed_after world before (Admit s k lane input) between (OobDone s k plan reply moment) after legal in
-    let match = open-matched s k lane input (reverse between) (past_of before) at.before at.may.request in
-    answer-id world (store_of world past) (open_out_of_band_of s past) lane Oob input reply match at.answer.answer
+    let here = placed_after world before (Admit s k lane input) between (OobDone s k plan reply moment) after legal in
+    let it = open-matched s k lane input (reverse between) (past_of before) here.before here.may.request in
+    answer-id world (store_of world past) (open_out_of_band_of s past) lane Oob input reply it here.answer.answer

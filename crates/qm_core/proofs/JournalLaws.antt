@@ -60,26 +60,26 @@ admitted world before e after s k legal h = sym (any-reverse (admits_request s k
 
 pub started : (world : World) (before between after : List Entry) (s k j : ℕ) → IsLegal world (before ++ Start s k ∷ (between ++ Start s j ∷ after)) → k < j
 started world before between after s k j legal =
-    let at = placed_after world before (Start s k) between (Start s j) after legal in
-    start-order s k j (reverse between) (past_of before) at.before at.may
+    let here = placed_after world before (Start s k) between (Start s j) after legal in
+    start-order s k j (reverse between) (past_of before) here.before here.may
 
 pub answered : (world : World) (before between : List Entry) (e : Entry) (after : List Entry) (s k j : ℕ) (plan : Option Plan) (reply : Json) (moment : ℕ) →
     IsLegal world (before ++ Done s k plan reply moment ∷ (between ++ e ∷ after)) → replies_to s j e ≡ true → k < j
 answered world before between e after s k j plan reply moment legal h =
-    let at = placed_after world before (Done s k plan reply moment) between e after legal in
-    reply-order s k j e plan reply moment (reverse between) (past_of before) at.before at.may h
+    let here = placed_after world before (Done s k plan reply moment) between e after legal in
+    reply-order s k j e plan reply moment (reverse between) (past_of before) here.before here.may h
 
 pub in-band : (world : World) (before between after : List Entry) (s k : ℕ) (lane : Lane) (input : Input) (plan : Option Plan) (reply : Json) (moment : ℕ) →
     IsLegal world (before ++ Admit s k lane input ∷ (between ++ Done s k plan reply moment ∷ after)) → lane ≡ InBand
 in-band world before between after s k lane input plan reply moment legal =
-    let at = placed_after world before (Admit s k lane input) between (Done s k plan reply moment) after legal in
-    sym (run-matched s k lane input (reverse between) (past_of before) at.before at.may.running).of_lane
+    let here = placed_after world before (Admit s k lane input) between (Done s k plan reply moment) after legal in
+    sym (run-matched s k lane input (reverse between) (past_of before) here.before here.may.running).of_lane
 
 pub out-of-band : (world : World) (before between after : List Entry) (s k : ℕ) (lane : Lane) (input : Input) (plan : Option Plan) (reply : Json) (moment : ℕ) →
     IsLegal world (before ++ Admit s k lane input ∷ (between ++ OobDone s k plan reply moment ∷ after)) → lane ≡ Oob
 out-of-band world before between after s k lane input plan reply moment legal =
-    let at = placed_after world before (Admit s k lane input) between (OobDone s k plan reply moment) after legal in
-    sym (open-matched s k lane input (reverse between) (past_of before) at.before at.may.request).of_lane
+    let here = placed_after world before (Admit s k lane input) between (OobDone s k plan reply moment) after legal in
+    sym (open-matched s k lane input (reverse between) (past_of before) here.before here.may.request).of_lane
 
 -- an in-band reply is not before one to an earlier request
 not-overtaken : (world : World) (before : List Entry) (e : Entry) (later : List Entry) (f : Entry) (after : List Entry) (s k j : ℕ) (lane : Lane) →

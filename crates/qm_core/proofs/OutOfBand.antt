@@ -86,9 +86,9 @@ pub oob-nothing : (world : World) (before between after : List Entry) (s k : ℕ
     ChangesNothing world (store_of world (reverse between ++ Admit s k lane input ∷ past_of before)) plan reply
 oob-nothing world before between after s k lane input plan reply moment legal none =
     let past = reverse between ++ Admit s k lane input ∷ past_of before in
-    let at = placed_after world before (Admit s k lane input) between (OobDone s k plan reply moment) after legal in
-    let match = open-matched s k lane input (reverse between) (past_of before) at.before at.may.request in
-    let q = match.found in
-    let oob : lane_of q.mode q.input ≡ Oob = sym ((lanes past at.before).opens s q match.is) in
-    let refused = oob-refusal world q.mode q.input oob (ap (names_out_of_band world) match.of_input ∙ none) in
-    refused-nothing world (store_of world past) q plan reply refused (rw match.is at at.answer.planned) (rw match.is at at.answer.answer)
+    let here = placed_after world before (Admit s k lane input) between (OobDone s k plan reply moment) after legal in
+    let it = open-matched s k lane input (reverse between) (past_of before) here.before here.may.request in
+    let q = it.found in
+    let oob : lane_of q.mode q.input ≡ Oob = sym ((lanes past here.before).opens s q it.is) in
+    let refused = oob-refusal world q.mode q.input oob (ap (names_out_of_band world) it.of_input ∙ none) in
+    refused-nothing world (store_of world past) q plan reply refused (rw it.is at here.answer.planned) (rw it.is at here.answer.answer)
