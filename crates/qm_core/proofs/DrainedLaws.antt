@@ -64,7 +64,10 @@ ended-admits : (s : ℕ) (later past : List Entry) → AllFollow (later ++ past)
 ended-admits s [] past legal h = refl
 ended-admits s (e ∷ later) past legal h =
     let none = admits-none s e (later ++ past) legal.0 (still-ended s later past h) in
-    count-cons (admits s) e (later ++ past) ∙ rw none (ended-admits s later past legal.1 h)
+    let more = count-cons (admits s) e (later ++ past) in
+    let nothing : unit (admits s e) ≡ 0 = ap (λ (b : Bool). unit b) none in
+    let rest = ended-admits s later past legal.1 h in
+    omega (arith, more, nothing, rest)
 
 -- what it says that a session is drained
 

@@ -67,10 +67,10 @@ lanes [] legal = none-held HasLane
 lanes (e ∷ past) legal = hold HasLane e past (lane-good e past legal.0) (lanes past legal.1)
 
 -- a request that is refused has no plan, and its reply is an error
-pub record ChangesNothing (world : World) (store : Contents) (plan : Option Plan) (reply : Json) : Type 0 where
+pub record ChangesNothing (world : World) (before : Contents) (plan : Option Plan) (reply : Json) : Type 0 where
   pub error : is_return reply ≡ false
   pub none : plan ≡ None
-  pub store : stored world store plan reply ≡ store
+  pub store : stored world before plan reply ≡ before
 
 refused-nothing : (world : World) (store : Contents) (q : Request) (plan : Option Plan) (reply : Json) → IsRefusal (verdict_of world q.mode q.input) → plan ≡ planned_for world q → reply ≡ reply_to world store q → ChangesNothing world store plan reply
 refused-nothing world store q plan reply refused planned answer =

@@ -12,7 +12,7 @@ use Rattle.qm_core.specs.declared.entries.Entry.{Entry}
 use Rattle.qm_core.specs.declared.entries.Entry.TheVariants.{Open, Admit, Start, Done, OobDone, Take, Eof, Drop}
 use Rattle.qm_core.specs.declared.{requests.Request.Request, requests.RequestName.RequestName, TheConstants.MOST_SESSIONS}
 use Rattle.qm_core.specs.{Legal.past_of, Legal.AllFollow, Order.MayStart}
-use Rattle.qm_core.specs.Standing.{sessions_of, was_opened, is_dropped, is_open, is_ready, admits, admitted_of, waiting_of, running_of, starting_of, turn_of, turn_item, named_of}
+use Rattle.qm_core.specs.Standing.{sessions_of, was_opened, is_dropped, is_open, is_ready, admits, admitted_of, mode_of, waiting_of, running_of, starting_of, turn_of, turn_item, named_of}
 use Rattle.qm_core.proofs.{Counting.unit, Counting.count-cons, Numbers.numbers_from, Numbers.numbers-more, Numbers.any-numbers}
 
 pub both : (a b : Bool) → (a && b) ≡ true → (a ≡ true) × (b ≡ true)
@@ -154,25 +154,34 @@ pub record Waits (s : ℕ) (past : List Entry) : Type 0 where
 pub waits : (s : ℕ) (past : List Entry) → AllFollow past → Waits s past
 waits s [] legal = record { order = refl; within = refl }
 waits s (Open t ∷ past) legal = (let before = waits s past legal.1 in record { order = before.order; within = before.within })
-waits s (Admit t k lane input ∷ past) legal = admit (t == s) (is_in_band lane) refl refl (waits s past legal.1) where
-  more : admitted_of s (Admit t k lane input ∷ past) ≡ unit (t == s) + admitted_of s past
-  more = count-cons (admits s) (Admit t k lane input) past
+waits s (Admit t k lane input ∷ past) legal = (let before = waits s past legal.1 in record { order = order_of (t == s && is_in_band lane) next before; within = within_of before }) where
+  e : Entry
+  e = Admit t k lane input
 
-  old : Waits s past → list_all (λ r. nat_le r.number (admitted_of s (Admit t k lane input ∷ past))) (waiting_of s past) ≡ true
-  old before = up_to (λ (r : Request). r.number) (admitted_of s past) (admitted_of s (Admit t k lane input ∷ past)) (waiting_of s past) (omega (arith, more)) before.within
+  new : Request
+  new = record { session = t; number = k; mode = mode_of t past; input = input }
 
-  admit : (b l : Bool) → (t == s) ≡ b → is_in_band lane ≡ l → Waits s past → Waits s (Admit t k lane input ∷ past)
-  admit true true h g before =
-      let e : t ≡ s = equal t s h in
-      let count : admitted_of s (Admit t k lane input ∷ past) ≡ 1 + admitted_of s past = more ∙ rw h refl in
-      let next : k ≡ admitted_of s past + 1 = rw e at legal.0.next in
-      let bound : nat_le k (admitted_of s (Admit t k lane input ∷ past)) ≡ true = (let le : k ≤ admitted_of s (Admit t k lane input ∷ past) = omega (arith, next, count) in grind (arith, nat_tests, le)) in
-      record {
-        order = rw (h, g) (order-more (waiting_of s past) _ before.order (below_next (λ (r : Request). r.number) (admitted_of s past) k (waiting_of s past) next before.within));
-        within = rw (h, g) (one_more (λ (r : Request). nat_le r.number (admitted_of s (Admit t k lane input ∷ past))) (waiting_of s past) _ (old before) bound);
-      }
-  admit true false h g before = record { order = rw (h, g) before.order; within = rw (h, g) (old before) }
-  admit false l h g before = record { order = rw h before.order; within = rw h (old before) }
+  more : admitted_of s (e ∷ past) ≡ unit (t == s) + admitted_of s past
+  more = count-cons (admits s) e past
+
+  next : (t == s && is_in_band lane) ≡ true → k ≡ admitted_of s past + 1
+  next h = legal.0.next ∙ ap (λ (u : ℕ). admitted_of u past + 1) (equal t s (both (t == s) (is_in_band lane) h).0)
+
+  bound : (t == s && is_in_band lane) ≡ true → nat_le k (admitted_of s (e ∷ past)) ≡ true
+  bound h =
+      let one : unit (t == s) ≡ 1 = ap (λ (b : Bool). unit b) (both (t == s) (is_in_band lane) h).0 in
+      let le : k ≤ admitted_of s (e ∷ past) = omega (arith, next h, more, one) in
+      grind (arith, nat_tests, le)
+
+  order_of : (b : Bool) → (b ≡ true → k ≡ admitted_of s past + 1) → Waits s past → in_order (cond b (waiting_of s past ++ new ∷ []) (waiting_of s past)) ≡ true
+  order_of true last before = order-more (waiting_of s past) new before.order (below_next (λ (r : Request). r.number) (admitted_of s past) k (waiting_of s past) (last refl) before.within)
+  order_of false last before = before.order
+
+  within_of : Waits s past → list_all (λ r. nat_le r.number (admitted_of s (e ∷ past))) (cond (t == s && is_in_band lane) (waiting_of s past ++ new ∷ []) (waiting_of s past)) ≡ true
+  within_of before =
+      let old : list_all (λ r. nat_le r.number (admitted_of s (e ∷ past))) (waiting_of s past) ≡ true = up_to (λ (r : Request). r.number) (admitted_of s past) (admitted_of s (e ∷ past)) (waiting_of s past) (omega (arith, more)) before.within in
+      chosen (λ (r : Request). nat_le r.number (admitted_of s (e ∷ past))) (t == s && is_in_band lane) (waiting_of s past ++ new ∷ []) (waiting_of s past)
+      (λ h. one_more (λ (r : Request). nat_le r.number (admitted_of s (e ∷ past))) (waiting_of s past) new old (bound h)) old
 waits s (Start t k ∷ past) legal = (let parts = start (t == s) (waits s past legal.1) in record { order = parts.0; within = parts.1 }) where
   start : (b : Bool) → Waits s past → (in_order (cond b (filter (λ r. not (r.number == k)) (waiting_of s past)) (waiting_of s past)) ≡ true)
       × (list_all (λ r. nat_le r.number (admitted_of s past)) (cond b (filter (λ r. not (r.number == k)) (waiting_of s past)) (waiting_of s past)) ≡ true)

@@ -9,7 +9,7 @@ use Rattle.qm_plan.specs.declared.recipes.Plan.{Plan}
 use Rattle.qm_core.specs.declared.entries.Entry.{Entry, TheVariants.Open, TheVariants.Admit, TheVariants.Start, TheVariants.Done, TheVariants.OobDone, TheVariants.Take, TheVariants.Eof, TheVariants.Drop}
 use Rattle.qm_core.specs.declared.{entries.Cause.Cause, inputs.Input.Input, requests.Request.Request, requests.RequestName.RequestName}
 use Rattle.qm_core.specs.{Drained.is_drained, Legal.AllFollow, Order.MayFollow, Order.MayStart, Requests.replies_to}
-use Rattle.qm_core.specs.Standing.{admits, admitted_of, is_dropped, is_ended, is_open, in_flight_of, is_of, waiting_of, running_of, open_out_of_band_of, named_of}
+use Rattle.qm_core.specs.Standing.{admits, admitted_of, mode_of, is_dropped, is_ended, is_open, in_flight_of, is_of, waiting_of, running_of, open_out_of_band_of, named_of}
 use Rattle.qm_core.proofs.Counting.{unit, count-cons, count-push}
 use Rattle.qm_core.proofs.Pasts.{Begins, begins, begun, both, differ, equal, same, is_of_session, waiting-session}
 
@@ -66,11 +66,12 @@ stands-more s k t j lane input past none = by_lane (t == s) lane refl where
   by_lane : (b : Bool) (l : Lane) → (t == s) ≡ b →
       count_by (has_number k) (waiting_of s (Admit t j l input ∷ past)) + unit (is_named s k (open_out_of_band_of s (Admit t j l input ∷ past)))
       ≡ count_by (has_number k) (waiting_of s past) + unit (is_named s k (open_out_of_band_of s past)) + unit (t == s && j == k)
-  by_lane true InBand h = rw h (let one = count-push (has_number k) (waiting_of s past) _ in omega (arith, one))
+  by_lane true InBand h = rw h (let one = count-push (has_number k) (waiting_of s past) (record { session = t; number = j; mode = mode_of t past; input = input }) in omega (arith, one))
   by_lane true Oob h =
       (let is : t ≡ s = equal t s h in
       let before : open_out_of_band_of s past ≡ None = subst (λ (u : ℕ). open_out_of_band_of u past ≡ None) is none in
-      rw (h, before) (omega arith))
+      let named : unit (t == s && j == k) ≡ unit (true && j == k) = ap (λ (c : Bool). unit (c && j == k)) h in
+      rw (h, before) (omega (arith, named)))
   by_lane false l h = rw h (omega arith)
 
 -- a start

@@ -64,14 +64,18 @@ ready-turn s past ready = rw ready refl
 pub start-turn-other : (s k t : ℕ) (past : List Entry) → t ≢ s → turn_at (Start s k ∷ past) t ≡ turn_at past t
 start-turn-other s k t past ne = rw (not_same s t ne) refl
 
+-- the item of a session that was started by the entry of this number
+abbrev pub item_after : ℕ → ℕ → TurnItem
+item_after s at = record { session = s; last_start = Some at }
+
 pub start-turn : (s k : ℕ) (past : List Entry) (b : Begins past s k) → AllFollow past →
-    turn_at (Start s k ∷ past) s ≡ cond (length b.others == 0) None (Some record { session = s; last_start = Some (length past + 1) })
+    turn_at (Start s k ∷ past) s ≡ cond (length b.others == 0) None (Some (item_after s (length past + 1)))
 start-turn s k past b legal =
     let opened = ready-open s past b.turn.ready in
     let left = (begun past s k b legal).waits in
     let last : last_start_of s (Start s k ∷ past) ≡ Some (length past + 1) = rw (same s) refl in
     rw (opened, left, last) (either (length b.others == 0)) where
-      either : (c : Bool) → cond (not c) (Some record { session = s; last_start = Some (length past + 1) }) None ≡ cond c None (Some record { session = s; last_start = Some (length past + 1) })
+      either : (c : Bool) → cond (not c) (Some (item_after s (length past + 1))) None ≡ cond c None (Some (item_after s (length past + 1)))
       either true = refl
       either false = refl
 
