@@ -1,6 +1,6 @@
 //! The text of a whole journal, and a sink that fails in its course.
 
-use crate::playing::{NEGOTIATION, admit, answer_text, opened, take};
+use crate::playing::{NEGOTIATION, admit, answer_text, opened, start, take};
 use qm_base::CallList;
 use qm_core::{BadInput, Cause, FrameWord, Input, Limits, Monitor};
 use qm_history::{HistoryFault, write_history};
@@ -28,7 +28,7 @@ const TEXT: &str = r#"1 open 1
 /// The end of the session's input, the start of its last request, and its fall.
 fn fall(monitor: &mut Monitor) -> Result<(), Fail> {
     monitor.end(1)?;
-    monitor.start()?;
+    start(monitor)?;
     monitor.drop_session(1, Cause::ReadFault)?;
     Ok(())
 }

@@ -7,7 +7,7 @@ ghost use Rattle.qm_core.specs.declared.TheConstants.{MOST_ENTRIES, MOST_TEXT};
 
 use crate::worlds::prelude_world;
 use qm_base::Shared;
-use qm_core::{Input, Limits, LineList, Monitor, Offer};
+use qm_core::{Input, Limits, LineList, Monitor, Offer, RequestName, Started};
 use qm_read::read;
 use std::alloc::Global;
 use std::test::Fail;
@@ -47,10 +47,20 @@ pub(crate) fn admit(alloc: Global, monitor: &mut Monitor, input: Input) -> Resul
     Ok(())
 }
 
+/// Starts the request whose turn it is.
+pub(crate) fn start(monitor: &mut Monitor) -> Result<RequestName, Fail> {
+    let Started {
+        session,
+        number,
+        ..
+    } = monitor.start()?;
+    Ok(RequestName { session, number })
+}
+
 fn start_and_finish(alloc: Global, monitor: &mut Monitor, moment: u64) -> Result<(), Fail> {
-    let started = monitor.start()?;
+    let RequestName { session, number } = start(monitor)?;
     let plan = monitor.planned(alloc)?;
-    monitor.finish(alloc, started.session, started.number, plan, moment)?;
+    monitor.finish(alloc, session, number, plan, moment)?;
     Ok(())
 }
 

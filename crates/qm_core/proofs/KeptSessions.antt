@@ -1,15 +1,15 @@
 -- What is kept of the first session, and one more entry.
-use Rattle.std.proofs.Common.{◌≡◌, ℕ, ◌+◌, ◌<◌, ◌==◌, ◌≢◌, Bool, true, false, not, cond, ◌&&◌, ◌||◌, Option, Some, None, List, [], ◌∷◌, ◌++◌, length, drop, refl, ap, sym, ◌∙◌, arith}
-use Rattle.std.specs.List.{list_any}
+use Rattle.std.proofs.Common.{◌≡◌, ℕ, ◌+◌, ◌<◌, ◌==◌, ◌≢◌, Bool, true, false, not, cond, nat_le, ◌&&◌, ◌||◌, Option, Some, None, IfSome, List, [], ◌∷◌, ◌++◌, length, drop, slice_get, refl, ap, sym, subst, ◌∙◌, arith}
+use Rattle.std.specs.{List.list_any, Option.option_to_list}
 use Rattle.std.proofs.lemmas.{Bool.or_parts, List.nil_from_length, List.Folds.list_any-append, List.Sums.sum_by-cons, Bool.Decides.nat_tests}
 use Rattle.qm_json.specs.{Printing.printed, declared.value.Json.Json}
 use Rattle.qm_caps.specs.{Greetings.greeting_value, Modes.bound_of, declared.mode.Lane.TheVariants.InBand, declared.mode.Mode.Mode}
 use Rattle.qm_caps.specs.declared.mode.Mode.TheVariants.{Command}
 use Rattle.qm_plan.specs.declared.recipes.Plan.{Plan}
 use Rattle.qm_core.specs.declared.entries.Entry.{Entry, TheVariants.Open, TheVariants.Admit, TheVariants.Start, TheVariants.Done, TheVariants.Take, TheVariants.Eof, TheVariants.Drop}
-use Rattle.qm_core.specs.{declared.inputs.Input.Input, declared.requests.Request.Request, declared.sessions.Session.Session, Replies.is_return}
-use Rattle.qm_core.specs.{Kept.IsSession, Kept.IsFirstOpen, Kept.Waits, Kept.answered, Kept.fits, Kept.sent, Legal.AllFollow}
-use Rattle.qm_core.specs.Standing.{sessions_of, was_opened, is_open, is_dropped, open_count_of, admits, admitted_of, in_flight_of, mode_of, waiting_of, running_of, negotiates}
+use Rattle.qm_core.specs.{declared.inputs.Input.Input, declared.requests.Request.Request, declared.requests.RequestName.RequestName, declared.sessions.Session.Session, declared.world.World.World, Planned.command_for, Planned.command_in, Replies.is_return}
+use Rattle.qm_core.specs.{Kept.IsRunning, Kept.IsSession, Kept.IsFirstOpen, Kept.Waits, Kept.answered, Kept.fits, Kept.sent, Legal.AllFollow}
+use Rattle.qm_core.specs.Standing.{sessions_of, was_opened, is_open, is_dropped, open_count_of, admits, admitted_of, in_flight_of, mode_of, waiting_of, running_of, starting_of, named_of, last_start_of, negotiates}
 use Rattle.qm_core.specs.Transcript.{Candidate, candidates_of, has_overrun, taken_of, untaken_of, with_line}
 use Rattle.qm_core.proofs.{Candidates.any_overruns, Candidates.kept_lines, Journals.dropped_opened}
 use Rattle.qm_core.proofs.Transcripts.{none-untaken, sent-more}
@@ -161,3 +161,33 @@ no_candidates s (Drop t cause ∷ past) none = no_candidates s past none
 pub other_not_overrun : (s : ℕ) (past : List Entry) (session : Session) → s ≢ 1 → IsSession past session → has_overrun s past ≡ false
 other_not_overrun s past session other kept =
     ap (λ (l : List Candidate). list_any (λ c. c.overruns) l) (no_candidates s past (ap (λ (l : List ℕ). list_any (λ t. t == s) l) kept.known ∙ none_other s session.opened other))
+
+opened-first : (past : List Entry) (opened : Bool) → sessions_of past ≡ cond opened (1 ∷ []) [] → is_open 1 past ≡ true → sessions_of past ≡ 1 ∷ []
+opened-first past true known h = known
+opened-first past false known h = absurd (let no = rw known at h in cc)
+
+-- the request that waits is the one to be started
+pub starting-kept : (past : List Entry) (session : Session) (request : Request) → IsSession past session → session.waiting ≡ Some request → starting_of past ≡ Some request
+starting-kept past session request kept waiting =
+    let stays : (request.session ≡ 1) × (is_open 1 past ≡ true) = rw waiting at kept.waits in
+    let alone : waiting_of 1 past ≡ request ∷ [] = sym kept.waiting ∙ ap option_to_list waiting in
+    let first = opened-first past session.opened kept.known stays.1 in
+    let least : nat_le (last_start_of 1 past) (last_start_of 1 past) ≡ true = grind (arith, nat_tests) in
+    let undropped : not (is_dropped 1 past) ≡ true = rw first at stays.1 in
+    rw (first, undropped, alone, least) (ap (λ (l : List Request). slice_get l 0) alone)
+
+-- once it is started, it runs
+pub running-start : (world : World) (past : List Entry) (session : Session) (request : Request) (name : RequestName) (command : Option ℕ) → IsSession past session →
+    session.waiting ≡ Some request → named_of (starting_of past) ≡ Some name → command ≡ command_for world request →
+    IfSome command (λ c. c < length world.schema.commands) → IsRunning world (Start name.session name.number ∷ past) (Some request) command
+running-start world past session request name command kept waiting turn called known =
+    let stays : (request.session ≡ 1) × (is_open 1 past ≡ true) = rw waiting at kept.waits in
+    let alone : waiting_of 1 past ≡ request ∷ [] = sym kept.waiting ∙ ap option_to_list waiting in
+    let told : Some record { session = request.session; number = request.number } ≡ Some name = sym (ap named_of (starting-kept past session request kept waiting)) ∙ turn in
+    let same : name ≡ record { session = request.session; number = request.number } = cc in
+    let equal : (request.number == request.number) ≡ true = grind (arith, nat_tests) in
+    let first : running_of (Start 1 request.number ∷ past) ≡ Some request = rw (alone, equal) refl in
+    let found : running_of (Start request.session request.number ∷ past) ≡ Some request =
+    subst (λ (s : ℕ). running_of (Start s request.number ∷ past) ≡ Some request) (sym stays.0) first in
+    subst (λ (n : RequestName). IsRunning world (Start n.session n.number ∷ past) (Some request) command) (sym same)
+    (record { request = sym found; of_first = stays.0; command = called ∙ sym (ap (command_in world) found); known = known })

@@ -1,9 +1,12 @@
--- A reply changes the store exactly where it is no error.
+-- A reply changes the store exactly where it is no error; and what a call plans.
 use Rattle.std.proofs.Common.{◌≡◌, ℕ, true, false, List, ◌∷◌, codes, Option, Some, None, option_map, Result, Ok, Err, refl, ap, ◌∙◌}
 use Rattle.qm_json.specs.declared.value.Json.TheViews.{outs-Obj}
 use Rattle.qm_json.specs.{Members.has_name, Members.layer_members, Members.member_of, Members.members_of, declared.value.Json.Json, declared.value.Json.TheVariants.Obj, declared.value.Member.Member}
 use Rattle.std.specs.Bool.{if◌then◌else◌}
+use Rattle.qm_caps.specs.declared.mode.Mode.{Mode}
+use Rattle.qm_plan.specs.{Plans.arguments_of, Plans.given_arguments, Plans.plan_of, declared.calls.Call.Call, declared.recipes.Plan.Plan}
 use Rattle.qm_plan.specs.{Applying.Outcome, Applying.applied_of, Stores.Contents, declared.applied.ApplyFault.ApplyFault}
+use Rattle.qm_core.specs.{Inputs.arguments_in, Inputs.document_of, Planned.call_of, Planned.call_with, Planned.recipe_at}
 use Rattle.qm_core.specs.{Effects.Effect, Effects.effect_of, Effects.facts_of, Planned.command_by, Planned.command_for, Planned.plan_for, Planned.planned_for, Replies.effect_member, Replies.id_of, Replies.id_members, Replies.is_return, Replies.outcome_of, Replies.reply_to, State.stored, State.effect_store, State.verdict_store, State.left_by, Verdicts.verdict_of}
 use Rattle.qm_core.specs.declared.{inputs.Input.Input, inputs.Input.TheVariants.Doc, inputs.Input.TheVariants.Bad, requests.Request.Request, world.World.World}
 use Rattle.qm_core.specs.Verdicts.{Refusal, Verdict, Refused, Run}
@@ -52,6 +55,25 @@ run_by (Run c) command told = (let same : command ≡ c = cc in ap Run same)
 -- the verdict on a request whose command takes effect
 pub run_by_command : (world : World) (request : Request) (command : ℕ) → Some command ≡ command_for world request → Run command ≡ verdict_of world request.mode request.input
 run_by_command world request = run_by (verdict_of world request.mode request.input)
+
+-- the plan of a command with the arguments of an input, and of the call that the input makes
+planned_call_of : (world : World) (value : Json) (command : Option ℕ) →
+    option_map (λ (c : ℕ). plan_of (recipe_at world c) (arguments_of (arguments_in (Doc value)))) command
+    ≡ option_map (λ (call : Call). plan_of (recipe_at world call.command) (arguments_of (given_arguments call))) (call_with command (Some value))
+planned_call_of world value None = refl
+planned_call_of world value (Some command) = refl
+
+planned_by_input : (world : World) (mode : Mode) (input : Input) →
+    (let command = command_by (verdict_of world mode input) in
+    option_map (λ (c : ℕ). plan_of (recipe_at world c) (arguments_of (arguments_in input))) command
+    ≡ option_map (λ (call : Call). plan_of (recipe_at world call.command) (arguments_of (given_arguments call))) (call_with command (document_of input)))
+planned_by_input world mode (Doc value) = planned_call_of world value (command_by (verdict_of world mode (Doc value)))
+planned_by_input world mode (Bad bad) = refl
+
+-- the plan of a request is that of the call that it makes
+pub planned_call : (world : World) (request : Request) →
+    planned_for world request ≡ option_map (λ (call : Call). plan_of (recipe_at world call.command) (arguments_of (given_arguments call))) (call_of world request)
+planned_call world request = planned_by_input world request.mode request.input
 
 -- the reply to a request that is refused is an error
 pub refused-error : (world : World) (store : Contents) (request : Request) (refusal : Refusal) → verdict_of world request.mode request.input ≡ Refused refusal → is_return (reply_to world store request) ≡ false

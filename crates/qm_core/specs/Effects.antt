@@ -55,9 +55,12 @@ failure_text (Failed text) = text
 failure_text (TallyFull name) = full_text name
 failure_text Memory = []
 
--- what a plan returns, or what its failure says
+-- what a plan that does not fail returns
+abbrev pub outcome_effect : World → ℕ → Json → Effect
+outcome_effect world command value = returned value (admission_of (return_misfit world.schema command value))
+
 abbrev pub applied_effect : World → ℕ → Result Outcome ApplyFault → Effect
-applied_effect world command (Ok outcome) = returned outcome.ret (admission_of (return_misfit world.schema command outcome.ret))
+applied_effect world command (Ok outcome) = outcome_effect world command outcome.ret
 applied_effect world command (Err fault) = Err (failure_text fault)
 
 -- what comes of the command of this name and number, by its plan and the store

@@ -34,10 +34,10 @@ pub record AreSessions (past : List Entry) (sessions : List Session) : Type 0 wh
   pub places : list_all has_places sessions ≡ true
 
 -- what is kept of the running request, and of its command that takes effect
-pub record IsRunning (world : World) (past : List Entry) (running : Option Request) (command : Option ℕ) : Type 0 where
+pub record IsRunning (world : World) (past : List Entry) (running : Option Request) (kept : Option ℕ) : Type 0 where
   pub request : running ≡ running_of past
-  pub command : command ≡ command_in world (running_of past)
-  pub known : IfSome command (λ c. c < length world.schema.commands)
+  pub command : kept ≡ command_in world (running_of past)
+  pub known : IfSome kept (λ command. command < length world.schema.commands)
 
 -- the fields are what stands in the journal, which is legal and has its places
 pub record IsSound (m : Fields) : Type 0 where

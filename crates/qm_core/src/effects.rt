@@ -3,10 +3,10 @@
 ghost use Rattle.std.specs.Prelude.{◌≡◌, ◌≢◌, ◌<◌, [], IfOk, OnErr, Ok, Err, length};
 ghost use Rattle.qm_base.specs.Names.{is_named};
 ghost use Rattle.qm_admit.specs.Misfits.{return_misfit, verdict_of as admission_of};
-ghost use Rattle.qm_plan.specs.Applying.{applied_of, outcome_in};
+ghost use Rattle.qm_plan.specs.Applying.{applied_of};
 ghost use Rattle.qm_plan.specs.Stores.{committed};
 ghost use Rattle.qm_plan.specs.declared.applied.ApplyFault.TheVariants.{Memory};
-ghost use Rattle.qm_core.specs.Effects.{command_name_at, effect_of, facts_of, failure_text, full_text, named_effect, applied_effect, returned as returned_by, unbuilt_names, unbuilt_text};
+ghost use Rattle.qm_core.specs.Effects.{command_name_at, effect_of, facts_of, failure_text, full_text, named_effect, outcome_effect, applied_effect, returned as returned_by, unbuilt_names, unbuilt_text};
 ghost use Rattle.qm_core.specs.State.{left_by};
 
 use crate::world::{Setting, World};
@@ -92,18 +92,16 @@ fn failed(alloc: Global, text: Text) -> Ended
 fn outcome_ending(
     alloc: Global,
     world: &World,
-    store: &Store,
     command: u32,
     applied: Applied,
 ) -> Result<Ended, NoMemory>
     requires id { command < length world.now.schema.commands }
     ensures effect { IfOk result (λ ending. ending.effect
-        ≡ applied_effect world.now command (Ok (outcome_in applied store.now))) }
-    ensures changes { IfOk result (λ ending.
-        IfOk ending.effect (λ _. committed ending.changes store.now ≡ committed applied.changes store.now)) }
+        ≡ outcome_effect world.now command applied.ret) }
+    ensures changes { IfOk result (λ ending. IfOk ending.effect (λ _.
+        ending.changes ≡ applied.changes)) }
     ensures none { IfOk result (λ ending. OnErr ending.effect (ending.changes ≡ [])) }
 {
-    let _ = store;
     let Applied { ret, changes, .. } = applied;
     match returned(alloc, world, command, ret)? {
         Ok(value) => Ok(Ended {
@@ -130,7 +128,7 @@ fn applied_ending(
     ensures none { IfOk result (λ ending. OnErr ending.effect (ending.changes ≡ [])) }
 {
     match apply(alloc, plan, store, setting.facts()) {
-        Ok(applied) => outcome_ending(alloc, setting.world(), store, command, applied),
+        Ok(applied) => outcome_ending(alloc, setting.world(), command, applied),
         Err(fault) => Ok(failed(alloc, failure_text(alloc, fault)?)),
     }
 }

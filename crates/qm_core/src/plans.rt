@@ -3,7 +3,7 @@
 ghost use Rattle.std.specs.Prelude.{◌≡◌, ◌<◌, length, IfOk, IfSome};
 ghost use Rattle.std.specs.Option.{option_copied};
 ghost use Rattle.qm_plan.specs.Plans.{arguments_of, plan_of};
-ghost use Rattle.qm_core.specs.Planned.{call_with, command_by, command_for, plain_recipe, plan_for, recipe_at};
+ghost use Rattle.qm_core.specs.Planned.{call_with, command_by, command_for, plain_recipe as plain_recipe_of, plan_for, recipe_at};
 
 use crate::arguments::arguments_in;
 use crate::judging::verdict;
@@ -12,7 +12,7 @@ use crate::verdicts::Verdict;
 use crate::world::World;
 use qm_base::{NoMemory, Shared};
 use qm_json::{Json, Members};
-use qm_plan::{Call, Plan, Template, plan_with};
+use qm_plan::{Call, Plan, Recipe, Template, Waiting, plan_with};
 use sqlite_items::Items;
 use std::alloc::Global;
 
@@ -37,13 +37,13 @@ pub(crate) fn call(command: Option<u32>, request: Option<Shared<Json>>) -> Optio
     }
 }
 
-fn plain_plan(alloc: Global, arguments: Option<&Json>) -> Plan
-    ensures { result ≡ plan_of plain_recipe (arguments_of (option_copied arguments.entry)) }
+fn plain_recipe(alloc: Global) -> Recipe
+    ensures { result ≡ plain_recipe_of }
 {
-    let _ = arguments;
-    Plan {
+    Recipe {
         acts: Items::new(alloc),
         ret: Template::Const(Members::new(alloc).into_json()),
+        waiting: Waiting::No,
     }
 }
 
@@ -58,7 +58,7 @@ fn command_plan(
 {
     match world.binding.recipes.as_slice().get(command as usize) {
         Some(recipe) => plan_with(alloc, recipe, arguments),
-        None => Ok(plain_plan(alloc, arguments)),
+        None => plan_with(alloc, &plain_recipe(alloc), arguments),
     }
 }
 

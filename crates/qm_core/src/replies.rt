@@ -134,7 +134,10 @@ fn outcome(
 {
     match (verdict, plan) {
         (Verdict::Refused(refusal), _) => refused_outcome(
-            alloc, setting.world(), &request.input, refusal,
+            alloc,
+            setting.world(),
+            &request.input,
+            refusal,
         ),
         (Verdict::Run(command), Some(plan)) => command_outcome(
             alloc, setting, store, *command, plan,
@@ -227,8 +230,9 @@ pub(crate) fn replied(
     ensures changes { IfOk result (λ reply. committed reply.changes store.now
         ≡ stored setting.now store.now plan.now (reply_to setting.now store.now request.now)) }
 {
-    let Message { members, changes } =
-        judged_message(alloc, setting, store, request, command, plan)?;
+    let Message { members, changes } = judged_message(
+        alloc, setting, store, request, command, plan,
+    )?;
     let value = with_id(alloc, members, &request.input)?;
     Ok(Reply { value, changes })
 }

@@ -3,11 +3,21 @@ use Rattle.std.specs.Prelude.{◌≡◌, ℕ, List, Option, Some, None, Result, 
 use Rattle.qm_base.specs.Faults.{Rose}
 use Rattle.qm_offline.specs.Causes.{MayLoad}
 use Rattle.qapi_load.specs.{Causes.Failures, Files.NamedText}
-use Rattle.qapi_types.specs.declared.parts.Parts.{Parts}
+use Rattle.qm_json.specs.Cleanness.{IsClean}
+use Rattle.qapi_types.specs.{Prelude.HasPrelude, Texts.HasTexts, declared.parts.Parts.Parts}
+use Rattle.qm_bind.specs.Goodness.{IsGoodBinding}
 use Rattle.qm_core.specs.declared.world.World.{World}
 use Rattle.qm_offline.specs.{Output.FileFault, Output.bind_name, Output.bind_over, Output.bind_text, Output.limits_of, Output.schema_of, Output.world_over, Refusals.file_refusal, Words.Words}
 use Rattle.qm_offline.specs.declared.{loading.Loaded.Loaded, refusal.Refusal.Refusal}
 use Rattle.qm_offline.specs.declared.refusal.Refusal.TheVariants as refusal
+
+-- the schema begins with the definitions that stand before those of each schema, and its names are texts; a
+-- text can spell its introspection; and the binding is good for it
+pub record IsGoodWorld (world : World) : Type 0 where
+  pub prelude : HasPrelude world.schema
+  pub texts : HasTexts world.schema
+  pub introspection : IsClean world.introspection
+  pub binding : IsGoodBinding world.schema world.binding
 
 -- words over the world of their files, or the first fault
 abbrev pub loaded_over : Words → Result World FileFault → Result Loaded Refusal

@@ -1,12 +1,13 @@
 //! What a command line asks for: its words, and the schema and the bind file that they name.
 ghost use Rattle.std.specs.Prelude.{◌≡◌, ◌≤◌, [], codes, IfOk, IsTrue, map, string_bytes, Some, Ok};
-ghost use Rattle.qm_json.specs.Cleanness.{IsClean, are_distinct};
+ghost use Rattle.qm_json.specs.Cleanness.{are_distinct};
 ghost use Rattle.qapi_load.specs.Causes.{Failures};
 ghost use Rattle.qm_plan.specs.Stores.{names_of};
+ghost use Rattle.qm_bind.specs.Goodness.{IsGoodBinding};
 ghost use Rattle.qm_core.specs.Worlds.{IsReady};
 ghost use Rattle.qapi_types.specs.{Prelude.HasPrelude, Texts.HasTexts};
 ghost use Rattle.qm_core.specs.declared.TheConstants.{MOST_ENTRIES, MOST_TEXT};
-ghost use Rattle.qm_offline.specs.Loading.{BoundFrom, HasCause, IsAnswer, LoadedFrom, loaded_over};
+ghost use Rattle.qm_offline.specs.Loading.{BoundFrom, HasCause, IsAnswer, IsGoodWorld, LoadedFrom, loaded_over};
 ghost use Rattle.qm_offline.specs.Output.{bind_over, world_of as world_of_schema};
 ghost use Rattle.qm_offline.specs.Words.{command_told, words_of as words_of_words};
 
@@ -58,8 +59,9 @@ fn ordered(alloc: Global, word: CommandWord<'_>) -> Result<Command, NoMemory>
 fn served(alloc: Global, schema: Schema, binding: Binding) -> Result<World, NoMemory>
     requires prelude { HasPrelude schema }
     requires texts { HasTexts schema }
+    requires good { IsGoodBinding schema binding }
     ensures value { IfOk result (λ world. world ≡ world_of_schema schema binding) }
-    ensures clean { IfOk result (λ world. IsClean world.introspection) }
+    ensures good { IfOk result (λ world. IsGoodWorld world) }
 {
     introspection_is_clean();
     let _parts = schema.parts();
@@ -81,12 +83,13 @@ fn over_binding(
     requires texts { HasTexts schema }
     requires cells { IsTrue (are_distinct (names_of binding.cells)) }
     requires tallies { IsTrue (are_distinct binding.tallies) }
+    requires good { IsGoodBinding schema binding }
     ensures value { IfOk result (λ loaded. Ok loaded
         ≡ loaded_over words.now (Ok (world_of_schema schema binding))) }
     ensures some { IfOk result (λ loaded. 1 ≤ loaded.limits.entries) }
     ensures few { IfOk result (λ loaded. loaded.limits.entries ≤ MOST_ENTRIES) }
     ensures short { IfOk result (λ loaded. loaded.limits.text ≤ MOST_TEXT) }
-    ensures clean { IfOk result (λ loaded. IsClean loaded.world.introspection) }
+    ensures good { IfOk result (λ loaded. IsGoodWorld loaded.world) }
     ensures ready { IfOk result (λ loaded. IsReady loaded.world) }
 {
     Ok(Loaded {
@@ -113,7 +116,7 @@ fn over_text(
     ensures some { IfOk result (λ loaded. 1 ≤ loaded.limits.entries) }
     ensures few { IfOk result (λ loaded. loaded.limits.entries ≤ MOST_ENTRIES) }
     ensures short { IfOk result (λ loaded. loaded.limits.text ≤ MOST_TEXT) }
-    ensures clean { IfOk result (λ loaded. IsClean loaded.world.introspection) }
+    ensures good { IfOk result (λ loaded. IsGoodWorld loaded.world) }
     ensures ready { IfOk result (λ loaded. IsReady loaded.world) }
     ensures read { (failures : Failures) → HasCause (Some words.now) result failures failures }
 {
@@ -138,7 +141,7 @@ fn unbound(alloc: Global, words: &Words<'_>, schema: Schema) -> Result<Loaded, R
     ensures some { IfOk result (λ loaded. 1 ≤ loaded.limits.entries) }
     ensures few { IfOk result (λ loaded. loaded.limits.entries ≤ MOST_ENTRIES) }
     ensures short { IfOk result (λ loaded. loaded.limits.text ≤ MOST_TEXT) }
-    ensures clean { IfOk result (λ loaded. IsClean loaded.world.introspection) }
+    ensures good { IfOk result (λ loaded. IsGoodWorld loaded.world) }
     ensures ready { IfOk result (λ loaded. IsReady loaded.world) }
     ensures read { (failures : Failures) → HasCause (Some words.now) result failures failures }
 {
@@ -163,7 +166,7 @@ fn bound<L: Library>(
     ensures some { IfOk result (λ loaded. 1 ≤ loaded.limits.entries) }
     ensures few { IfOk result (λ loaded. loaded.limits.entries ≤ MOST_ENTRIES) }
     ensures short { IfOk result (λ loaded. loaded.limits.text ≤ MOST_TEXT) }
-    ensures clean { IfOk result (λ loaded. IsClean loaded.world.introspection) }
+    ensures good { IfOk result (λ loaded. IsGoodWorld loaded.world) }
     ensures ready { IfOk result (λ loaded. IsReady loaded.world) }
     ensures same { L.files library.new ≡ L.files library.old }
     ensures cause { HasCause (Some words.now) result
@@ -190,7 +193,7 @@ fn over_schema<L: Library>(
     ensures some { IfOk result (λ loaded. 1 ≤ loaded.limits.entries) }
     ensures few { IfOk result (λ loaded. loaded.limits.entries ≤ MOST_ENTRIES) }
     ensures short { IfOk result (λ loaded. loaded.limits.text ≤ MOST_TEXT) }
-    ensures clean { IfOk result (λ loaded. IsClean loaded.world.introspection) }
+    ensures good { IfOk result (λ loaded. IsGoodWorld loaded.world) }
     ensures ready { IfOk result (λ loaded. IsReady loaded.world) }
     ensures same { L.files library.new ≡ L.files library.old }
     ensures cause { HasCause (Some words.now) result
@@ -215,7 +218,7 @@ fn load_words<L: Library>(
     ensures some { IfOk result (λ loaded. 1 ≤ loaded.limits.entries) }
     ensures few { IfOk result (λ loaded. loaded.limits.entries ≤ MOST_ENTRIES) }
     ensures short { IfOk result (λ loaded. loaded.limits.text ≤ MOST_TEXT) }
-    ensures clean { IfOk result (λ loaded. IsClean loaded.world.introspection) }
+    ensures good { IfOk result (λ loaded. IsGoodWorld loaded.world) }
     ensures ready { IfOk result (λ loaded. IsReady loaded.world) }
     ensures same { L.files library.new ≡ L.files library.old }
     ensures cause { HasCause (Some words.now) result
@@ -248,7 +251,7 @@ pub fn load<L: Library>(alloc: Global, words: &[String], library: &mut L) -> Res
     ensures some { IfOk result (λ loaded. 1 ≤ loaded.limits.entries) }
     ensures few { IfOk result (λ loaded. loaded.limits.entries ≤ MOST_ENTRIES) }
     ensures short { IfOk result (λ loaded. loaded.limits.text ≤ MOST_TEXT) }
-    ensures clean { IfOk result (λ loaded. IsClean loaded.world.introspection) }
+    ensures good { IfOk result (λ loaded. IsGoodWorld loaded.world) }
     ensures ready { IfOk result (λ loaded. IsReady loaded.world) }
     ensures same { L.files library.new ≡ L.files library.old }
     ensures cause { HasCause (words_of_words (map string_bytes words.now)) result

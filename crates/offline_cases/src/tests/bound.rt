@@ -45,8 +45,8 @@ text 1 {\"execute\":\"qmp_capabilities\"}%
 text 1 {\"execute\":\"bad\"}%
 text 1 {\"execute\":\"get\"}%
 text 1 {\"execute\":\"put\",\"arguments\":{\"at\":1}}%
-text 1 {\"execute\":\"put\",\"arguments\":{\"at\":1}}%
-text 1 {\"execute\":\"put\",\"arguments\":{\"at\":65536}}%
+text 1 {\"execute\":\"put\",\"arguments\":{\"at\":\"x\"}}%
+text 1 {\"execute\":\"put\",\"arguments\":{\"at\":70000}}%
 text 1 {\"execute\":\"level\",\"arguments\":{\"n\":1}}%
 text 1 {\"execute\":\"put\",\"arguments\":{\"at\":1}}%
 text 1 {\"execute\":\"set\",\"arguments\":{\"mode\":\"off\"}}%
@@ -65,10 +65,10 @@ text 1 {\"execute\":\"get\",\"id\":7}%
 11 admit 1 4 in {\"execute\": \"put\", \"arguments\": {\"at\": 1}}
 12 start 1 4
 13 done 1 4 @0 {\"return\": 1}
-14 admit 1 5 in {\"execute\": \"put\", \"arguments\": {\"at\": 1}}
+14 admit 1 5 in {\"execute\": \"put\", \"arguments\": {\"at\": \"x\"}}
 15 start 1 5
 16 done 1 5 @0 {\"return\": 2}
-17 admit 1 6 in {\"execute\": \"put\", \"arguments\": {\"at\": 65536}}
+17 admit 1 6 in {\"execute\": \"put\", \"arguments\": {\"at\": 70000}}
 18 start 1 6
 19 done 1 6 @0 {\"error\": {\"class\": \"GenericError\", \"desc\": \"Parameter 'at' is out of range\"}}
 20 admit 1 7 in {\"execute\": \"level\", \"arguments\": {\"n\": 1}}

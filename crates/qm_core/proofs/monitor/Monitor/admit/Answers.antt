@@ -15,4 +15,4 @@ invariant_of-self c =
     let ok = rw (← c.self.view_is) at c.in_ok-bytes.ensures in
     let given = c.spend-kept.ensures in
     let same : c.kept.result.now ≡ c.spend-kept.result.kept = (let e : Some c.kept.result.now ≡ Some c.spend-kept.result.kept = sym c.kept.ensures ∙ given.kept in cc) in
-    sound-admit c.self.inside _ _ _ _ _ c.self.invariant ok.«open» ok.more ok.below given.clean given.waiting (rw same at ok.placed) c.put.ensures
+    rw c.new.ensures (sound-admit c.self.inside _ _ _ _ _ c.self.invariant ok.«open» ok.more ok.below given.clean given.waiting (rw same at ok.placed) c.put.ensures)
