@@ -8,6 +8,7 @@ pub mod Ids
 pub mod InOrder
 pub mod JournalLaws
 pub mod Journals
+pub mod Keeping
 pub mod KeptMonitors
 pub mod KeptSessions
 pub mod Lists
