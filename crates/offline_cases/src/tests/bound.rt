@@ -35,6 +35,15 @@ list.json
 text.json
 {x}
 @
+empty.json
+@
+acts.json
+{\"cells\": {\"c\": 1}, \"tallies\": [\"t\"], \"commands\": {
+ \"get\": {\"acts\": [{\"set\": \"c\", \"to\": {\"const\": \"fast\"}}], \"return\": {\"cell\": \"c\"}},
+ \"put\": {\"acts\": [{\"fail\": \"first\"}, {\"add\": \"t\", \"by\": 1}]},
+ \"ping\": {\"return\": {\"tally\": \"t\"}},
+ \"bad\": {\"acts\": [{\"add\": \"t\", \"by\": 1}, {\"fail\": \"middle\"}, {\"add\": \"t\", \"by\": 1}]}}}
+@
 ";
 
 /// A failed plan leaves nothing, and each call sees what those before it left.
@@ -97,6 +106,35 @@ text 1 {\"execute\":\"set\",\"arguments\":{\"mode\":\"off\"}}%
 6 start 1 2
 7 done 1 2 @0 {\"return\": {}}
 end 7
+$ replay --schema s1.json --bind acts.json a.script
+open
+text 1 {\"execute\":\"qmp_capabilities\"}%
+text 1 {\"execute\":\"put\",\"arguments\":{\"at\":1}}%
+text 1 {\"execute\":\"ping\"}%
+text 1 {\"execute\":\"bad\"}%
+text 1 {\"execute\":\"ping\"}%
+text 1 {\"execute\":\"get\"}%
+= 0
+1 open 1
+2 admit 1 1 in {\"execute\": \"qmp_capabilities\"}
+3 start 1 1
+4 done 1 1 @0 {\"return\": {}}
+5 admit 1 2 in {\"execute\": \"put\", \"arguments\": {\"at\": 1}}
+6 start 1 2
+7 done 1 2 @0 {\"error\": {\"class\": \"GenericError\", \"desc\": \"first\"}}
+8 admit 1 3 in {\"execute\": \"ping\"}
+9 start 1 3
+10 done 1 3 @0 {\"return\": 0}
+11 admit 1 4 in {\"execute\": \"bad\"}
+12 start 1 4
+13 done 1 4 @0 {\"error\": {\"class\": \"GenericError\", \"desc\": \"middle\"}}
+14 admit 1 5 in {\"execute\": \"ping\"}
+15 start 1 5
+16 done 1 5 @0 {\"return\": 0}
+17 admit 1 6 in {\"execute\": \"get\"}
+18 start 1 6
+19 done 1 6 @0 {\"return\": \"fast\"}
+end 19
 $ check --schema s1.json --bind b1.json
 = 0
 ok 20 commands, 2 events, 11 types
@@ -134,4 +172,7 @@ error: bind list.json: bad-recipe
 $ check --bind text.json
 = 4
 error: bind text.json: not-json expected 1
+$ check --bind empty.json
+= 4
+error: bind empty.json: not-json expected 0
 ";
