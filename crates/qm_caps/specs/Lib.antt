@@ -1,2 +1,3 @@
 pub mod Greetings
+pub mod Lanes
 pub mod Modes

@@ -3,7 +3,9 @@
 #![tactic(auto)]
 
 pub mod greetings;
+pub mod lanes;
 pub mod mode;
 
 pub use greetings::{greeting, version};
+pub use lanes::classify;
 pub use mode::{Lane, Mode, bound};

@@ -1,5 +1,6 @@
 ghost use Rattle.std.specs.Prelude.{◌≡◌};
-ghost use Rattle.qm_caps.specs.Modes.{bound_of};
+ghost use Rattle.qm_caps.specs.Lanes.{is_in_band};
+ghost use Rattle.qm_caps.specs.Modes.{bound_of, is_negotiating, may_be_out_of_band};
 
 /// What a session has negotiated (QMP specification, "Capabilities Negotiation").
 #[derive(Clone, Copy, Debug, PartialEq, Eq)]
@@ -29,5 +30,30 @@ pub fn bound(mode: Mode) -> u32
     match mode {
         Mode::CommandOob => 8,
         Mode::Negotiating | Mode::Command => 1,
+    }
+}
+
+impl Mode {
+    /// Whether a request may ask to be run out of band.
+    pub fn may_be_out_of_band(self) -> bool
+        ensures { result ≡ may_be_out_of_band self }
+    {
+        matches!(self, Mode::CommandOob)
+    }
+
+    /// Whether only `qmp_capabilities` is answered.
+    pub fn is_negotiating(self) -> bool
+        ensures { result ≡ is_negotiating self }
+    {
+        matches!(self, Mode::Negotiating)
+    }
+}
+
+impl Lane {
+    /// Whether a request is run in its turn.
+    pub fn is_in_band(self) -> bool
+        ensures { result ≡ is_in_band self }
+    {
+        matches!(self, Lane::InBand)
     }
 }

@@ -3,7 +3,7 @@ use Rattle.std.proofs.Common.{◌≡◌, ℕ, ◌+◌, nat_le, nat_lt, Bool, tru
 use Rattle.std.specs.List.{list_any, take_while}
 use Rattle.std.proofs.{Math.Bool.or-false, lemmas.Bool.Decides.nat_tests, lemmas.List.Folds.list_any-append}
 use Rattle.std.proofs.lemmas.List.Sums.{take_while-cons}
-use Rattle.qm_core.specs.{Kept.fits, Transcript.Candidate, Transcript.lines_in, Transcript.passes_limit, Transcript.with_line, Transcript.wire_of, declared.TheConstants.MOST_UNTAKEN}
+use Rattle.qm_core.specs.{Sessions.fits, Transcript.Candidate, Transcript.lines_in, Transcript.passes_limit, Transcript.with_line, Transcript.wire_of, declared.TheConstants.MOST_UNTAKEN}
 use Rattle.qm_core.proofs.Texts.{wire-append}
 
 -- the lines before the first that overruns

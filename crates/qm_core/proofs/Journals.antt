@@ -2,7 +2,7 @@
 use Rattle.std.proofs.Common.{◌≡◌, ℕ, ◌==◌, true, false, ◌||◌, List, [], ◌∷◌, ◌++◌, reverse, refl, ap, append_assoc, ◌∙◌, subst, inl, inr}
 use Rattle.std.specs.List.{list_any}
 use Rattle.std.proofs.lemmas.{List.reverse-append, Bool.and_parts, Bool.or_cases, Bool.Decides.Decides-eqb}
-use Rattle.qm_core.specs.declared.entries.Entry.{Entry, TheVariants.Open, TheVariants.Admit, TheVariants.Start, TheVariants.Done, TheVariants.Take, TheVariants.Eof, TheVariants.Drop}
+use Rattle.qm_core.specs.declared.entries.Entry.{Entry, TheVariants.Open, TheVariants.Admit, TheVariants.Start, TheVariants.Done, TheVariants.OobDone, TheVariants.Take, TheVariants.Eof, TheVariants.Drop}
 use Rattle.qm_core.specs.declared.world.World.{World}
 use Rattle.qm_core.specs.{Answers.IsAnswer, Answers.AllAnswer, Legal.past_of, Legal.AllFollow, Legal.IsLegal, Order.MayFollow}
 use Rattle.qm_core.specs.Standing.{sessions_of, was_opened, is_dropped}
@@ -17,25 +17,51 @@ legal-append world journal e legal may answer = record {
 }
 
 -- the past of a journal, seen from an entry in it
-swapped : (before : List Entry) (e : Entry) (after : List Entry) → past_of (before ++ e ∷ after) ≡ reverse after ++ e ∷ past_of before
+pub swapped : (before : List Entry) (e : Entry) (after : List Entry) → past_of (before ++ e ∷ after) ≡ reverse after ++ e ∷ past_of before
 swapped before e after =
     reverse-append before (e ∷ after) ∙ ap (λ l. l ++ past_of before) (reverse-append (e ∷ []) after) ∙ append_assoc (reverse after) (e ∷ []) (past_of before)
 
-within : (later : List Entry) (e : Entry) (past : List Entry) → AllFollow (later ++ e ∷ past) → MayFollow past e
-within [] e past h = h.0
-within (x ∷ later) e past h = within later e past h.1
+-- and from the second of two
+swapped_twice : (before : List Entry) (e : Entry) (between : List Entry) (f : Entry) (after : List Entry) →
+    past_of (before ++ e ∷ (between ++ f ∷ after)) ≡ reverse after ++ f ∷ (reverse between ++ e ∷ past_of before)
+swapped_twice before e between f after =
+    swapped before e (between ++ f ∷ after) ∙ ap (λ l. l ++ e ∷ past_of before) (swapped between f after) ∙ append_assoc (reverse after) (f ∷ reverse between) (e ∷ past_of before)
 
--- every entry may come after those before it
-pub legal_at : (world : World) (before : List Entry) (e : Entry) (after : List Entry) → IsLegal world (before ++ e ∷ after) → MayFollow (past_of before) e
-legal_at world before e after legal = within (reverse after) e (past_of before) (subst AllFollow (swapped before e after) legal.ordered)
+-- what stands before a place is legal
+pub earlier : (later past : List Entry) → AllFollow (later ++ past) → AllFollow past
+earlier [] past h = h
+earlier (x ∷ later) past h = earlier later past h.1
+
+-- an entry at its place in a legal journal
+pub record IsPlaced (world : World) (past : List Entry) (e : Entry) : Type 0 where
+  pub before : AllFollow past
+  pub may : MayFollow past e
+  pub answer : IsAnswer world past e
 
 answer_within : (world : World) (later : List Entry) (e : Entry) (past : List Entry) → AllAnswer world (later ++ e ∷ past) → IsAnswer world past e
 answer_within world [] e past h = h.0
 answer_within world (x ∷ later) e past h = answer_within world later e past h.1
 
--- every reply is the answer to what runs
+within : (world : World) (later : List Entry) (e : Entry) (past journal : List Entry) → past_of journal ≡ later ++ e ∷ past → IsLegal world journal → IsPlaced world past e
+within world later e past journal is legal =
+    let ordered : AllFollow (e ∷ past) = earlier later (e ∷ past) (subst AllFollow is legal.ordered) in
+    record { before = ordered.1; may = ordered.0; answer = answer_within world later e past (subst (λ l. AllAnswer world l) is legal.answered) }
+
+pub placed_in : (world : World) (before : List Entry) (e : Entry) (after : List Entry) → IsLegal world (before ++ e ∷ after) → IsPlaced world (past_of before) e
+placed_in world before e after legal = within world (reverse after) e (past_of before) _ (swapped before e after) legal
+
+-- the second of two
+pub placed_after : (world : World) (before : List Entry) (e : Entry) (between : List Entry) (f : Entry) (after : List Entry) →
+    IsLegal world (before ++ e ∷ (between ++ f ∷ after)) → IsPlaced world (reverse between ++ e ∷ past_of before) f
+placed_after world before e between f after legal = within world (reverse after) f (reverse between ++ e ∷ past_of before) _ (swapped_twice before e between f after) legal
+
+-- every entry may come after those before it
+pub legal_at : (world : World) (before : List Entry) (e : Entry) (after : List Entry) → IsLegal world (before ++ e ∷ after) → MayFollow (past_of before) e
+legal_at world before e after legal = (placed_in world before e after legal).may
+
+-- every reply is the answer to its request
 pub answer_at : (world : World) (before : List Entry) (e : Entry) (after : List Entry) → IsLegal world (before ++ e ∷ after) → IsAnswer world (past_of before) e
-answer_at world before e after legal = answer_within world (reverse after) e (past_of before) (subst (λ past. AllAnswer world past) (swapped before e after) legal.answered)
+answer_at world before e after legal = (placed_in world before e after legal).answer
 
 opened_more : (s t : ℕ) (opened : List ℕ) → list_any (λ u. u == s) opened ≡ true → list_any (λ u. u == s) (opened ++ t ∷ []) ≡ true
 opened_more s t [] h = cc
@@ -48,6 +74,7 @@ dropped_opened s (Open t ∷ past) legal h = opened_more s t (sessions_of past) 
 dropped_opened s (Admit t k lane input ∷ past) legal h = dropped_opened s past legal.1 h
 dropped_opened s (Start t k ∷ past) legal h = dropped_opened s past legal.1 h
 dropped_opened s (Done t k plan reply moment ∷ past) legal h = dropped_opened s past legal.1 h
+dropped_opened s (OobDone t k plan reply moment ∷ past) legal h = dropped_opened s past legal.1 h
 dropped_opened s (Take t lines ∷ past) legal h = dropped_opened s past legal.1 h
 dropped_opened s (Eof t ∷ past) legal h = dropped_opened s past legal.1 h
 dropped_opened s (Drop t cause ∷ past) legal h = dropped_here s t past ((and_parts _ _ legal.0.is_open).0) (dropped_opened s past legal.1) h where

@@ -1,19 +1,18 @@
 -- A reply changes the store exactly where it is no error; and what a call plans.
-use Rattle.std.proofs.Common.{◌≡◌, ℕ, ◌==◌, Bool, true, false, ◌&&◌, List, ◌∷◌, codes, Option, Some, None, option_map, Result, Ok, Err, refl, ap, ◌∙◌}
+use Rattle.std.proofs.Common.{◌≡◌, ℕ, true, false, List, ◌∷◌, codes, Option, Some, None, option_map, Result, Ok, Err, refl, ap, ◌∙◌}
 use Rattle.qm_json.specs.declared.value.Json.TheViews.{outs-Obj}
 use Rattle.qm_json.specs.{Members.has_name, Members.layer_members, Members.member_of, Members.members_of, declared.value.Json.Json, declared.value.Json.TheVariants.Obj, declared.value.Member.Member}
 use Rattle.std.specs.Bool.{if◌then◌else◌}
 use Rattle.qm_caps.specs.declared.mode.Mode.{Mode}
 use Rattle.qm_plan.specs.{Plans.arguments_of, Plans.given_arguments, Plans.plan_of, declared.calls.Call.Call, declared.recipes.Plan.Plan}
 use Rattle.qm_plan.specs.{Applying.Outcome, Applying.applied_of, Stores.Contents, declared.applied.ApplyFault.ApplyFault}
-use Rattle.qm_core.specs.declared.entries.Entry.{Entry, TheVariants.Done}
-use Rattle.qm_core.specs.{Inputs.arguments_in, Inputs.document_of, Planned.call_of, Planned.call_with, Planned.recipe_at, Standing.mode_of, Standing.negotiates, Standing.running_of, State.store_of}
+use Rattle.qm_core.specs.{Inputs.arguments_in, Inputs.document_of, Planned.call_of, Planned.call_with, Planned.recipe_at}
 use Rattle.qm_core.specs.{Effects.Effect, Effects.effect_of, Effects.facts_of, Planned.command_by, Planned.command_for, Planned.plan_for, Planned.planned_for, Replies.effect_member, Replies.id_of, Replies.id_members, Replies.is_return, Replies.outcome_of, Replies.reply_to, State.stored, State.effect_store, State.verdict_store, State.left_by, Verdicts.verdict_of}
 use Rattle.qm_core.specs.declared.{inputs.Input.Input, inputs.Input.TheVariants.Doc, inputs.Input.TheVariants.Bad, requests.Request.Request, world.World.World}
-use Rattle.qm_core.specs.Verdicts.{Verdict, Refused, Run}
+use Rattle.qm_core.specs.Verdicts.{Refusal, Verdict, Refused, Run}
 
 -- the members of an object are these
-members_back : (members : List Member) → members_of (Obj members) ≡ members
+pub members_back : (members : List Member) → members_of (Obj members) ≡ members
 members_back members = ap layer_members (outs-Obj members)
 
 return_first : (value : Json) (ids : List Member) → is_return (Obj (effect_member (Ok value) ∷ ids)) ≡ true
@@ -57,22 +56,6 @@ run_by (Run c) command told = (let same : command ≡ c = cc in ap Run same)
 pub run_by_command : (world : World) (request : Request) (command : ℕ) → Some command ≡ command_for world request → Run command ≡ verdict_of world request.mode request.input
 run_by_command world request = run_by (verdict_of world request.mode request.input)
 
--- an error changes no store
-pub failed_store : (world : World) (past : List Entry) (s k : ℕ) (plan : Option Plan) (reply : Json) (moment : ℕ) → is_return reply ≡ false →
-    store_of world (Done s k plan reply moment ∷ past) ≡ store_of world past
-failed_store world past s k None reply moment failed = refl
-failed_store world past s k (Some plan) reply moment failed = rw failed refl
-
--- and no mode
-not_both : (a b : Bool) → (a && (b && false)) ≡ false
-not_both true true = refl
-not_both true false = refl
-not_both false b = refl
-
-pub failed_mode : (past : List Entry) (t s k : ℕ) (plan : Option Plan) (reply : Json) (moment : ℕ) → is_return reply ≡ false →
-    mode_of t (Done s k plan reply moment ∷ past) ≡ mode_of t past
-failed_mode past t s k plan reply moment failed = rw (failed, not_both (s == t) (negotiates (running_of past))) refl
-
 -- the plan of a command with the arguments of an input, and of the call that the input makes
 planned_call_of : (world : World) (value : Json) (command : Option ℕ) →
     option_map (λ (c : ℕ). plan_of (recipe_at world c) (arguments_of (arguments_in (Doc value)))) command
@@ -91,3 +74,9 @@ planned_by_input world mode (Bad bad) = refl
 pub planned_call : (world : World) (request : Request) →
     planned_for world request ≡ option_map (λ (call : Call). plan_of (recipe_at world call.command) (arguments_of (given_arguments call))) (call_of world request)
 planned_call world request = planned_by_input world request.mode request.input
+
+-- the reply to a request that is refused is an error
+pub refused-error : (world : World) (store : Contents) (request : Request) (refusal : Refusal) → verdict_of world request.mode request.input ≡ Refused refusal → is_return (reply_to world store request) ≡ false
+refused-error world store request refusal refused =
+    ap (λ (v : Verdict). is_return (Obj (outcome_of world store request v ∷ id_of request.input))) refused
+    ∙ ap (λ (l : List Member). has_name l (codes "return")) (members_back (outcome_of world store request (Refused refusal) ∷ id_of request.input)) ∙ ids_are_no_return request.input

@@ -3,8 +3,8 @@ use Rattle.std.proofs.Common.{◌≡◌, ℕ, ◌==◌, Bool, true, false, not, 
 use Rattle.std.proofs.{Math.Seq.drop-append_seam, Math.Seq.drop-length, lemmas.Bool.Decides.Decides-eqb}
 use Rattle.qm_base.specs.Prefixes.{IsPrefix}
 use Rattle.qm_base.proofs.Prefixes.{empty_prefix, trans_prefix, left_prefix, refl_prefix}
-use Rattle.qm_core.specs.declared.entries.Entry.{Entry, TheVariants.Open, TheVariants.Admit, TheVariants.Start, TheVariants.Done, TheVariants.Take, TheVariants.Eof, TheVariants.Drop}
-use Rattle.qm_core.specs.{Legal.AllFollow, Standing.is_open, Kept.fits}
+use Rattle.qm_core.specs.declared.entries.Entry.{Entry, TheVariants.Open, TheVariants.Admit, TheVariants.Start, TheVariants.Done, TheVariants.OobDone, TheVariants.Take, TheVariants.Eof, TheVariants.Drop}
+use Rattle.qm_core.specs.{Legal.AllFollow, Standing.is_open, Sessions.fits}
 use Rattle.qm_core.specs.Transcript.{Candidate, candidates_of, has_overrun, transcript_of, taken_of, untaken_of, with_line}
 use Rattle.qm_core.proofs.Candidates.{any_overruns, kept_lines, overruns-more, lines-more}
 
@@ -41,6 +41,7 @@ taken_first s (Open t ∷ past) legal = let before = taken_first s past legal.1 
 taken_first s (Admit t k lane input ∷ past) legal = taken_first s past legal.1
 taken_first s (Start t k ∷ past) legal = taken_first s past legal.1
 taken_first s (Done t k plan reply moment ∷ past) legal = let before = taken_first s past legal.1 in may_grow (t == s && is_open s past) _ (taken_of s past) (candidates_of s past) _ before before
+taken_first s (OobDone t k plan reply moment ∷ past) legal = let before = taken_first s past legal.1 in may_grow (t == s && is_open s past) _ (taken_of s past) (candidates_of s past) _ before before
 taken_first s (Take t lines ∷ past) legal = hand_out t lines (taken_first s past legal.1) legal.0.all where
   hand_out : (t : ℕ) (lines : List (List ℕ)) → IsPrefix (taken_of s past) (transcript_of s past) → lines ≡ untaken_of t past → IsPrefix (cond (t == s) (taken_of s past ++ lines) (taken_of s past)) (transcript_of s past)
   hand_out t lines p all = may_take _ _ _ _ p (λ same. let e : lines ≡ untaken_of s past = subst (λ (u : ℕ). lines ≡ untaken_of u past) ((Decides-eqb t s).0 same) all in rw e (all_taken _ _ p))
@@ -52,10 +53,11 @@ pub taken-untaken : (s : ℕ) (past : List Entry) → AllFollow past → taken_o
 taken-untaken s past legal = whole_of (taken_of s past) (transcript_of s past) (taken_first s past legal)
 
 -- once all lines that were untaken are handed out, none is untaken
-pub none-untaken : (past : List Entry) (lines : List (List ℕ)) → AllFollow past → lines ≡ untaken_of 1 past → untaken_of 1 (Take 1 lines ∷ past) ≡ []
-none-untaken past lines legal all =
-    let whole = transcript_of 1 past in
-    ap (λ (l : List (List ℕ)). drop (length (taken_of 1 past ++ l)) whole) all ∙ ap (λ (l : List (List ℕ)). drop (length l) whole) (taken-untaken 1 past legal) ∙ drop-length whole
+pub none-untaken : (s : ℕ) (past : List Entry) (lines : List (List ℕ)) → AllFollow past → lines ≡ untaken_of s past → untaken_of s (Take s lines ∷ past) ≡ []
+none-untaken s past lines legal all =
+    let whole = transcript_of s past in
+    let same : (s == s) ≡ true = (Decides-eqb s s).1 refl in
+    rw same (ap (λ (l : List (List ℕ)). drop (length (taken_of s past ++ l)) whole) all ∙ ap (λ (l : List (List ℕ)). drop (length l) whole) (taken-untaken s past legal) ∙ drop-length whole)
 
 line_more : (b : Bool) (part whole : List (List ℕ)) (line : List ℕ) → IsPrefix part whole → drop (length part) (cond b (whole ++ line ∷ []) whole) ≡ cond b (drop (length part) whole ++ line ∷ []) (drop (length part) whole)
 line_more true part whole line p = rest_more part whole (line ∷ []) p

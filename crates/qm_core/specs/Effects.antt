@@ -1,5 +1,5 @@
 -- What comes of a command that takes effect (this project's own rule).
-use Rattle.std.specs.Prelude.{ℕ, Bool, true, false, if◌then◌else◌, List, [], ◌∷◌, ◌++◌, codes, map, Option, Some, slice_get, Result, Ok, Err}
+use Rattle.std.specs.Prelude.{ℕ, if◌then◌else◌, List, [], ◌∷◌, ◌++◌, codes, map, slice_get, Result, Ok, Err}
 use Rattle.std.specs.Option.{option_map_or}
 use Rattle.qm_base.specs.Names.{is_named}
 use Rattle.qm_json.specs.declared.value.Json.{Json, TheVariants.Obj, TheVariants.Arr, TheVariants.Str}
@@ -22,7 +22,7 @@ command_name_at world command = option_map_or (λ (c : CommandDef). c.name) (sli
 -- the commands that fail, since they are not built
 abbrev pub unbuilt_names : List (List ℕ)
 unbuilt_names =
-    codes "quit" ∷ codes "query-jobs"
+    codes "query-jobs"
     ∷ codes "job-cancel" ∷ codes "job-pause" ∷ codes "job-resume" ∷ codes "job-complete" ∷ codes "job-finalize" ∷ codes "job-dismiss" ∷ []
 
 abbrev pub unbuilt_text : List ℕ → List ℕ
@@ -55,18 +55,12 @@ failure_text (Failed text) = text
 failure_text (TallyFull name) = full_text name
 failure_text Memory = []
 
-abbrev pub is_true : Option Bool → Bool
-is_true (Some true) = true
-is_true _ = false
-
--- what a plan that does not fail returns; execution out of band is not built
-abbrev pub outcome_effect : World → ℕ → Option Bool → Json → Effect
-outcome_effect world command enable value =
-    if is_true enable then Err (codes "The capability oob is not built")
-    else returned value (admission_of (return_misfit world.schema command value))
+-- what a plan that does not fail returns
+abbrev pub outcome_effect : World → ℕ → Json → Effect
+outcome_effect world command value = returned value (admission_of (return_misfit world.schema command value))
 
 abbrev pub applied_effect : World → ℕ → Result Outcome ApplyFault → Effect
-applied_effect world command (Ok outcome) = outcome_effect world command outcome.enable outcome.ret
+applied_effect world command (Ok outcome) = outcome_effect world command outcome.ret
 applied_effect world command (Err fault) = Err (failure_text fault)
 
 -- what comes of the command of this name and number, by its plan and the store

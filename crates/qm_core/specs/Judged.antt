@@ -1,5 +1,5 @@
 -- Verdicts as the code holds them. This serves private functions.
-use Rattle.qm_core.specs.Verdicts.{Refusal, Verdict, Malformed, NotAnObject, UnexpectedMember, TwoVerbs, NoVerb, VerbNoString, ArgumentsNoObject, NegotiationExpected, NegotiationComplete, UnknownCommand, Misfit, Refused, Run}
+use Rattle.qm_core.specs.Verdicts.{Refusal, Verdict, Malformed, NotAnObject, UnexpectedMember, TwoVerbs, NoVerb, VerbNoString, ArgumentsNoObject, NegotiationExpected, NegotiationComplete, UnknownCommand, NotOutOfBand, Misfit, Refused, Run}
 use Rattle.qm_core.specs.declared.verdicts.{Refusal.Refusal as HeldRefusal, Verdict.Verdict as HeldVerdict}
 use Rattle.qm_core.specs.declared.verdicts.Refusal.TheVariants as held
 use Rattle.qm_core.specs.declared.verdicts.Verdict.TheVariants as held_verdict
@@ -15,6 +15,7 @@ told held.ArgumentsNoObject = ArgumentsNoObject
 told held.NegotiationExpected = NegotiationExpected
 told held.NegotiationComplete = NegotiationComplete
 told (held.UnknownCommand name) = UnknownCommand name.now
+told (held.NotOutOfBand name) = NotOutOfBand name.now
 told (held.Misfit fault path) = Misfit fault path
 
 abbrev pub told_verdict : HeldVerdict → Verdict

@@ -1,44 +1,41 @@
--- What the fields of a monitor keep of its journal (this project's own rule). One session is opened at
--- most, the first.
-use Rattle.std.specs.Prelude.{◌≡◌, ℕ, ◌+◌, ◌≤◌, ◌<◌, nat_le, Bool, false, true, not, if◌then◌else◌, ◌&&◌, ◌||◌, List, [], ◌∷◌, ◌++◌, length, Option, None, IfSome, Result, IfOk}
-use Rattle.std.specs.{Option.option_to_list, Result.result_err}
-use Rattle.qm_caps.specs.declared.mode.Mode.TheVariants.{Command, Negotiating}
+-- What the fields of a monitor keep of its journal (this project's own rule). This serves private functions.
+use Rattle.std.specs.Prelude.{◌≡◌, ℕ, ◌+◌, ◌≤◌, ◌<◌, ◌==◌, Bool, true, false, ◌||◌, List, ◌∷◌, length, map, Option, IfSome, Result, IfOk}
+use Rattle.std.specs.{List.list_all, Result.result_err}
+use Rattle.qm_queue.specs.declared.ring.TheConstants.{PLACES}
 use Rattle.qm_core.specs.{Legal.past_of, Legal.IsLegal, Legal.HasRoom, Legal.IsWithin, Legal.is_within, Next.View, Next.Step, Next.full_refusal, Next.refusal_of}
-use Rattle.qm_core.specs.Standing.{sessions_of, is_open, is_dropped, is_ended, open_count_of, admitted_of, mode_of, waiting_of, running_of, last_moment_of}
-use Rattle.qm_core.specs.{Planned.command_in, State.store_of, Texts.entry_text_of, Texts.text_of, Transcript.has_overrun, Transcript.untaken_of, Transcript.wire_of}
-use Rattle.qm_core.specs.declared.{TheConstants.MOST_ENTRIES, TheConstants.MOST_TEXT, TheConstants.MOST_UNTAKEN, entries.Entry.Entry, entries.StepFault.StepFault, monitor.Monitor.TheInside.Inside as Fields, requests.Request.Request, sessions.Session.Session, world.World.World}
+use Rattle.qm_core.specs.Standing.{sessions_of, was_opened, is_open, is_dropped, is_stopped, open_count_of, running_of, last_moment_of}
+use Rattle.qm_core.specs.{Planned.command_in, Sessions.Kept, Sessions.session_at, Sessions.turn_at, State.store_of, Texts.entry_text_of, Texts.text_of}
+use Rattle.qm_core.specs.declared.{TheConstants.MOST_ENTRIES, TheConstants.MOST_TEXT, entries.Entry.Entry, entries.StepFault.StepFault, monitor.Monitor.TheInside.Inside as Fields, requests.Request.Request, sessions.Session.Session, world.World.World}
 
 abbrev pub view_of : Fields → View
 view_of m = record { world = m.world; limits = m.limits; journal = m.journal.items }
 
--- a session that was not opened
-abbrev pub unopened : Session
-unopened = record { opened = false; dropped = false; ended = false; admitted = 0; mode = Negotiating; waiting = None; outbox = []; overrun = false }
+-- what a session's fields keep
+abbrev pub kept_of : Session → Kept
+kept_of session = record {
+  dropped = session.dropped;
+  ended = session.ended;
+  admitted = session.admitted;
+  mode = session.mode;
+  waiting = session.waiting.items;
+  open_out_of_band = session.open_out_of_band;
+  last_start = session.last_start;
+  outbox = session.outbox;
+  overrun = session.overrun;
+}
 
--- the request, where there is one, is of the first session
-abbrev pub IsOfFirst : Option Request → Type 0
-IsOfFirst request = IfSome request (λ q. q.session ≡ 1)
+-- a session that is not dropped has its places
+abbrev pub has_places : Session → Bool
+has_places session = session.dropped || session.waiting.places == PLACES
 
--- and its session is open
-abbrev pub Waits : List Entry → Option Request → Type 0
-Waits past request = IfSome request (λ q. (q.session ≡ 1) × (is_open 1 past ≡ true))
-
--- what is kept of the first session
-pub record IsSession (past : List Entry) (session : Session) : Type 0 where
-  pub known : sessions_of past ≡ (if session.opened then 1 ∷ [] else [])
-  pub dropped : session.dropped ≡ is_dropped 1 past
-  pub ended : session.ended ≡ is_ended 1 past
-  pub admitted : session.admitted ≡ admitted_of 1 past
-  pub mode : session.mode ≡ mode_of 1 past
-  pub waiting : option_to_list session.waiting ≡ waiting_of 1 past
-  pub waits : Waits past session.waiting
-  pub outbox : session.outbox ≡ untaken_of 1 past
-  pub overrun : session.overrun ≡ has_overrun 1 past
+-- what is kept of the sessions, in the order of opening
+pub record AreSessions (past : List Entry) (sessions : List Session) : Type 0 where
+  pub kept : map kept_of sessions ≡ map (session_at past) (sessions_of past)
+  pub places : list_all has_places sessions ≡ true
 
 -- what is kept of the running request, and of its command that takes effect
 pub record IsRunning (world : World) (past : List Entry) (running : Option Request) (kept : Option ℕ) : Type 0 where
   pub request : running ≡ running_of past
-  pub of_first : IsOfFirst running
   pub command : kept ≡ command_in world (running_of past)
   pub known : IfSome kept (λ command. command < length world.schema.commands)
 
@@ -49,9 +46,12 @@ pub record IsSound (m : Fields) : Type 0 where
   pub places : m.limits.entries ≤ m.journal.places
   pub few : m.limits.entries ≤ MOST_ENTRIES
   pub short : m.limits.text ≤ MOST_TEXT
-  pub session : IsSession (past_of m.journal.items) m.session
+  pub sessions : AreSessions (past_of m.journal.items) m.sessions.items
+  pub turns : m.turns ≡ map (turn_at (past_of m.journal.items)) (sessions_of (past_of m.journal.items))
+  pub open_count : m.open_count ≡ open_count_of (past_of m.journal.items)
   pub running : IsRunning m.world (past_of m.journal.items) m.running m.command
   pub moment : m.last_moment ≡ last_moment_of (past_of m.journal.items)
+  pub stopped : m.stopped ≡ is_stopped (past_of m.journal.items)
   pub store : m.store ≡ store_of m.world (past_of m.journal.items)
 
 -- the refusal of a step
@@ -75,28 +75,9 @@ pub record Placed (m : View) (e : Entry) (result : Result ℕ StepFault) : Type 
   pub fault : result_err result ≡ full_refusal m.limits (past_of m.journal) e
   pub placed : IfOk result (IsPlaced m e)
 
--- the line fits into an outbox
-abbrev pub fits : List (List ℕ) → List ℕ → Bool
-fits outbox line = nat_le (length (wire_of (outbox ++ line ∷ []))) MOST_UNTAKEN
-
--- a session that is sent a line, which it gets where no line overran and this one fits
-abbrev pub sent : Session → List ℕ → Session
-sent session line = record session {
-  outbox = if not session.overrun && fits session.outbox line then session.outbox ++ line ∷ [] else session.outbox;
-  overrun = session.overrun || not (fits session.outbox line);
-}
-
--- a session after a reply: it is sent the line while it is open, and may open the command mode
-abbrev pub answered : Session → List ℕ → Bool → Session
-answered session line commands = record session {
-  mode = if commands then Command else session.mode;
-  outbox = if session.opened && not session.dropped then (sent session line).outbox else session.outbox;
-  overrun = if session.opened && not session.dropped then (sent session line).overrun else session.overrun;
-}
-
--- the session is the first, and open
-pub record IsFirstOpen (past : List Entry) (s : ℕ) : Type 0 where
-  pub first : s ≡ 1
-  pub known : sessions_of past ≡ 1 ∷ []
-  pub is_open : is_open s past ≡ true
-  pub stays : is_dropped 1 past ≡ false
+-- the session is open, and has its record
+pub record IsOpen (past : List Entry) (s : ℕ) : Type 0 where
+  pub low : 0 < s
+  pub high : s ≤ length (sessions_of past)
+  pub known : was_opened s past ≡ true
+  pub stays : is_dropped s past ≡ false

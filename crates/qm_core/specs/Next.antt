@@ -1,14 +1,16 @@
 -- The steps of a monitor: each is answered by its first refusal, or by its entry (this project's own rule).
 use Rattle.std.specs.Prelude.{◌≡◌, ℕ, ◌+◌, ◌^◌, ◌<◌, ◌==◌, nat_le, max, Bool, false, if◌then◌else◌, ◌&&◌, ◌||◌, List, [], ◌∷◌, ◌++◌, length, reverse, Option, Some, None, is_some, is_none, refl}
 use Rattle.std.specs.{Coded.Coded, Coded.code_by, Coded.coded×, Coded.coded_list, Coded.coded_ℕ, Option.option_or}
-use Rattle.qm_caps.specs.{Modes.bound_of, declared.mode.Lane.TheVariants.InBand}
-use Rattle.qm_core.specs.{Inputs.IsCleanInput, Legal.past_of, Legal.is_within, Answers.reply_of, Order.cause_holds, Planned.planned_of, State.store_of}
-use Rattle.qm_core.specs.Standing.{sessions_of, was_opened, is_dropped, is_ended, open_count_of, admitted_of, in_flight_of, mode_of, running_of, starting_of, named_of, last_moment_of}
+use Rattle.qm_caps.specs.{Lanes.is_in_band, Modes.bound_of}
+use Rattle.qm_core.specs.{Inputs.IsCleanInput, Inputs.lane_of, Legal.past_of, Legal.is_within, Answers.reply_of, Order.cause_holds, Planned.planned_of, State.store_of}
+use Rattle.qm_core.specs.Standing.{sessions_of, was_opened, is_dropped, is_ended, open_count_of, admitted_of, in_flight_of, mode_of, running_of, open_out_of_band_of, is_stopped, starting_of, named_of, last_moment_of}
 use Rattle.qm_core.specs.{Texts.text_of, Texts.entry_text_of, Transcript.untaken_of, declared.TheConstants.MOST_SESSIONS}
 use Rattle.qm_core.specs.declared.entries.{Cause.Cause, Cause.TheVariants.Ended, Entry.Entry, StepFault.StepFault}
 use Rattle.qm_core.specs.declared.entries.Entry.TheVariants as entry
-use Rattle.qm_core.specs.declared.entries.StepFault.TheVariants.{NoSession, Closed, InputEnded, Busy, Nothing, NotRunning, NotDrained, WrongCause, SessionsFull, JournalFull}
-use Rattle.qm_core.specs.declared.{inputs.Input.Input, monitor.Limits.Limits, requests.RequestName.RequestName, world.World.World}
+use Rattle.qm_core.specs.declared.entries.StepFault.TheVariants.{NoSession, Closed, InputEnded, OobOpen, Busy, Nothing, NotRunning, NotOpen, NotDrained, WrongCause, Stopping, SessionsFull, JournalFull}
+use Rattle.qm_core.specs.declared.{inputs.Input.Input, monitor.Limits.Limits, requests.Request.Request, requests.RequestName.RequestName, world.World.World}
+use Rattle.qm_json.specs.declared.value.Json.{Json}
+use Rattle.qm_plan.specs.declared.recipes.Plan.{Plan}
 
 -- what is asked of a monitor
 pub data Step : Type 0 where
@@ -16,6 +18,7 @@ pub data Step : Type 0 where
   Admit : ℕ → Input → Step
   Start : Step
   Finish : ℕ → ℕ → ℕ → Step
+  FinishOob : ℕ → ℕ → ℕ → Step
   Take : ℕ → Step
   End : ℕ → Step
   Drop : ℕ → Cause → Step
@@ -24,6 +27,7 @@ pub data Step : Type 0 where
 abbrev pub IsCleanStep : Step → Type 0
 IsCleanStep (Admit s input) = IsCleanInput input
 IsCleanStep (Finish s k moment) = moment < 2 ^ 64
+IsCleanStep (FinishOob s k moment) = moment < 2 ^ 64
 IsCleanStep _ = Unit {0}
 
 -- where no request can be started there is no such entry, and the step is refused
@@ -31,12 +35,18 @@ abbrev pub start_entry : Option RequestName → Entry
 start_entry None = entry.Start 0 0
 start_entry (Some q) = entry.Start q.session q.number
 
+-- the entry of a request's plan and reply, at a moment that is not before any other
+abbrev pub answer_entry : World → List Entry → (ℕ → ℕ → Option Plan → Json → ℕ → Entry) → Option Request → ℕ → ℕ → ℕ → Entry
+answer_entry world past done request s k moment =
+    done s k (planned_of world request) (reply_of world (store_of world past) request) (max moment (last_moment_of past))
+
 -- the entry of a step that is not refused
 abbrev pub entry_of : World → List Entry → Step → Entry
 entry_of world past Open = entry.Open (length (sessions_of past) + 1)
-entry_of world past (Admit s input) = entry.Admit s (admitted_of s past + 1) InBand input
+entry_of world past (Admit s input) = entry.Admit s (admitted_of s past + 1) (lane_of (mode_of s past) input) input
 entry_of world past Start = start_entry (named_of (starting_of past))
-entry_of world past (Finish s k moment) = entry.Done s k (planned_of world (running_of past)) (reply_of world (store_of world past) (running_of past)) (max moment (last_moment_of past))
+entry_of world past (Finish s k moment) = answer_entry world past entry.Done (running_of past) s k moment
+entry_of world past (FinishOob s k moment) = answer_entry world past entry.OobDone (open_out_of_band_of s past) s k moment
 entry_of world past (Take s) = entry.Take s (untaken_of s past)
 entry_of world past (End s) = entry.Eof s
 entry_of world past (Drop s cause) = entry.Drop s cause
@@ -66,6 +76,13 @@ names s k (Some q) = q.session == s && q.number == k
 abbrev pub is_running : ℕ → ℕ → List Entry → Bool
 is_running s k past = names s k (named_of (running_of past))
 
+abbrev pub is_open_out_of_band : ℕ → ℕ → List Entry → Bool
+is_open_out_of_band s k past = names s k (named_of (open_out_of_band_of s past))
+
+-- the input is for the in-band lane, and as many requests of the session wait or run as its mode allows
+abbrev pub is_busy : ℕ → List Entry → Input → Bool
+is_busy s past input = is_in_band (lane_of (mode_of s past) input) && nat_le (bound_of (mode_of s past)) (in_flight_of s past)
+
 -- the fault of a cause that does not hold
 abbrev pub cause_fault : Cause → StepFault
 cause_fault Ended = NotDrained
@@ -74,15 +91,23 @@ cause_fault _ = WrongCause
 -- the first refusal whose condition holds
 abbrev pub refusal_of : World → Limits → List Entry → Step → Option StepFault
 refusal_of world limits past Open =
-    if nat_le MOST_SESSIONS (length (sessions_of past)) then Some SessionsFull else full_refusal limits past (entry_of world past Open)
+    if is_stopped past then Some Stopping
+    else if nat_le MOST_SESSIONS (length (sessions_of past)) then Some SessionsFull
+    else full_refusal limits past (entry_of world past Open)
 refusal_of world limits past (Admit s input) = session_refusal s past
     (if is_ended s past then Some InputEnded
-    else if nat_le (bound_of (mode_of s past)) (in_flight_of s past) then Some Busy
+    else if is_stopped past then Some Stopping
+    else if is_some (open_out_of_band_of s past) then Some OobOpen
+    else if is_busy s past input then Some Busy
     else full_refusal limits past (entry_of world past (Admit s input)))
 refusal_of world limits past Start =
-    if is_some (running_of past) || is_none (starting_of past) then Some Nothing else full_refusal limits past (entry_of world past Start)
+    if is_stopped past then Some Stopping
+    else if is_some (running_of past) || is_none (starting_of past) then Some Nothing
+    else full_refusal limits past (entry_of world past Start)
 refusal_of world limits past (Finish s k moment) =
     if is_running s k past then full_refusal limits past (entry_of world past (Finish s k moment)) else Some NotRunning
+refusal_of world limits past (FinishOob s k moment) = session_refusal s past
+    (if is_open_out_of_band s k past then full_refusal limits past (entry_of world past (FinishOob s k moment)) else Some NotOpen)
 refusal_of world limits past (Take s) = session_refusal s past
     (if length (untaken_of s past) == 0 then Some Nothing else full_refusal limits past (entry_of world past (Take s)))
 refusal_of world limits past (End s) = session_refusal s past

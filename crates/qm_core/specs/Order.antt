@@ -1,37 +1,52 @@
 -- Which entry may come next (this project's own rule).
 use Rattle.std.specs.Prelude.{◌≡◌, ℕ, ◌+◌, ◌^◌, ◌<◌, ◌≤◌, Bool, true, false, List, length, Some, None}
-use Rattle.qm_caps.specs.{Modes.bound_of, declared.mode.Lane.Lane, declared.mode.Lane.TheVariants.InBand}
-use Rattle.qm_core.specs.{Drained.is_drained, Inputs.IsCleanInput}
-use Rattle.qm_core.specs.Standing.{sessions_of, is_open, is_ended, admitted_of, in_flight_of, mode_of, running_of, starting_of, named_of, last_moment_of}
+use Rattle.qm_caps.specs.{Lanes.is_in_band, Modes.bound_of, declared.mode.Lane.Lane}
+use Rattle.qm_core.specs.{Drained.is_drained, Inputs.IsCleanInput, Inputs.lane_of}
+use Rattle.qm_core.specs.Standing.{sessions_of, is_open, is_ended, admitted_of, in_flight_of, mode_of, running_of, open_out_of_band_of, is_stopped, starting_of, named_of, last_moment_of}
 use Rattle.qm_core.specs.{Transcript.has_overrun, Transcript.untaken_of, declared.TheConstants.MOST_SESSIONS, declared.entries.Cause.Cause}
 use Rattle.qm_core.specs.declared.entries.{Cause.TheVariants.Ended, Cause.TheVariants.Overrun, Cause.TheVariants.Stopped, Entry.Entry}
-use Rattle.qm_core.specs.declared.entries.Entry.TheVariants.{Open, Admit, Start, Done, Take, Eof, Drop}
+use Rattle.qm_core.specs.declared.entries.Entry.TheVariants.{Open, Admit, Start, Done, OobDone, Take, Eof, Drop}
 use Rattle.qm_core.specs.declared.inputs.Input.{Input}
 
 -- the next session is opened
 pub record MayOpen (past : List Entry) (s : ℕ) : Type 0 where
+  pub going : is_stopped past ≡ false
   pub next : s ≡ length (sessions_of past) + 1
   pub few : s ≤ MOST_SESSIONS
 
--- the next request of an open session is admitted, in band, below the bound of its mode
+-- the next request of an open session is admitted, in the lane of its input, while none of it is open
+-- out of band, and in band below the bound of its mode
 pub record MayAdmit (past : List Entry) (s k : ℕ) (lane : Lane) (input : Input) : Type 0 where
   pub is_open : is_open s past ≡ true
   pub more : is_ended s past ≡ false
+  pub going : is_stopped past ≡ false
+  pub answered : open_out_of_band_of s past ≡ None
   pub next : k ≡ admitted_of s past + 1
-  pub in_band : lane ≡ InBand
-  pub below : in_flight_of s past < bound_of (mode_of s past)
+  pub in_lane : lane ≡ lane_of (mode_of s past) input
+  pub below : is_in_band lane ≡ true → in_flight_of s past < bound_of (mode_of s past)
   pub clean : IsCleanInput input
 
 -- nothing runs, and the request is the least that waits of the session whose turn it is
 pub record MayStart (past : List Entry) (s k : ℕ) : Type 0 where
+  pub going : is_stopped past ≡ false
   pub idle : running_of past ≡ None
   pub turn : named_of (starting_of past) ≡ Some record { session = s; number = k }
+
+-- the moment is not before any other, and has 64 bits
+pub record MayCome (past : List Entry) (moment : ℕ) : Type 0 where
+  pub later : last_moment_of past ≤ moment
+  pub below : moment < 2 ^ 64
 
 -- the running request is answered
 pub record MayFinish (past : List Entry) (s k moment : ℕ) : Type 0 where
   pub running : named_of (running_of past) ≡ Some record { session = s; number = k }
-  pub later : last_moment_of past ≤ moment
-  pub below : moment < 2 ^ 64
+  pub timed : MayCome past moment
+
+-- the request of an open session that is open out of band is answered
+pub record MayFinishOob (past : List Entry) (s k moment : ℕ) : Type 0 where
+  pub is_open : is_open s past ≡ true
+  pub request : named_of (open_out_of_band_of s past) ≡ Some record { session = s; number = k }
+  pub timed : MayCome past moment
 
 -- all lines of an open session that are untaken are handed out
 pub record MayTake (past : List Entry) (s : ℕ) (lines : List (List ℕ)) : Type 0 where
@@ -44,11 +59,11 @@ pub record MayEnd (past : List Entry) (s : ℕ) : Type 0 where
   pub is_open : is_open s past ≡ true
   pub more : is_ended s past ≡ false
 
--- the cause of a drop holds; no command stops the monitor yet
+-- the cause of a drop holds
 abbrev pub cause_holds : List Entry → ℕ → Cause → Bool
 cause_holds past s Ended = is_drained s past
 cause_holds past s Overrun = has_overrun s past
-cause_holds past s Stopped = false
+cause_holds past s Stopped = is_stopped past
 cause_holds past s _ = true
 
 -- an open session is closed for a cause that holds
@@ -62,6 +77,7 @@ MayFollow past (Open s) = MayOpen past s
 MayFollow past (Admit s k lane input) = MayAdmit past s k lane input
 MayFollow past (Start s k) = MayStart past s k
 MayFollow past (Done s k plan reply moment) = MayFinish past s k moment
+MayFollow past (OobDone s k plan reply moment) = MayFinishOob past s k moment
 MayFollow past (Take s lines) = MayTake past s lines
 MayFollow past (Eof s) = MayEnd past s
 MayFollow past (Drop s cause) = MayDrop past s cause

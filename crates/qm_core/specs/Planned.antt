@@ -1,11 +1,12 @@
 -- The call that a request makes, and its plan (this project's own rule).
-use Rattle.std.specs.Prelude.{ℕ, [], Option, Some, None, option_map, slice_get, unwrap_or}
-use Rattle.std.specs.Option.{option_and_then}
+use Rattle.std.specs.Prelude.{ℕ, Bool, true, false, if◌then◌else◌, [], Option, Some, None, option_map, slice_get, unwrap_or}
+use Rattle.std.specs.{List.filter_map, Option.option_and_then}
 use Rattle.qm_json.specs.declared.value.Json.{Json}
-use Rattle.qm_plan.specs.{Plans.plan_of, Plans.arguments_of, Plans.no_members, declared.templates.Template.TheVariants.Const}
+use Rattle.qm_caps.specs.{Lanes.is_in_band, declared.mode.Mode.Mode, declared.mode.Mode.TheVariants.Command, declared.mode.Mode.TheVariants.CommandOob}
+use Rattle.qm_plan.specs.{Applying.enabled_by, Plans.plan_of, Plans.arguments_of, Plans.no_members, declared.templates.Template.TheVariants.Const}
 use Rattle.qm_plan.specs.declared.{calls.Call.Call, recipes.Plan.Plan, recipes.Recipe.Recipe, recipes.Waiting.TheVariants.No}
-use Rattle.qm_core.specs.{Inputs.arguments_in, Inputs.document_of, Verdicts.Verdict, Verdicts.Refused, Verdicts.Run, Verdicts.verdict_of}
-use Rattle.qm_core.specs.declared.{requests.Request.Request, requests.Started.Started, world.World.World}
+use Rattle.qm_core.specs.{Inputs.arguments_in, Inputs.document_of, Inputs.lane_of, Verdicts.Verdict, Verdicts.Refused, Verdicts.Run, Verdicts.verdict_of}
+use Rattle.qm_core.specs.declared.{requests.Admitted.Admitted, requests.Request.Request, requests.Started.Started, world.World.World}
 
 -- the command that takes effect by a verdict; none by a refusal
 abbrev pub command_by : Verdict → Option ℕ
@@ -33,6 +34,12 @@ call_of world request = call_with (command_for world request) (document_of reque
 abbrev pub started_of : World → Request → Started
 started_of world request = record { session = request.session; number = request.number; call = call_of world request }
 
+-- what is told of a request that is admitted: its call, where it is run out of band
+abbrev pub admitted_as : World → Request → Admitted
+admitted_as world request =
+    let lane = lane_of request.mode request.input in
+    record { number = request.number; lane = lane; call = if is_in_band lane then None else call_of world request }
+
 -- a recipe without acts, which returns the empty object
 abbrev pub plain_recipe : Recipe
 plain_recipe = record { acts = []; ret = Const no_members; waiting = No }
@@ -52,3 +59,16 @@ planned_for world request = option_map (plan_for world request) (command_for wor
 -- the plan of a request, where there is one
 abbrev pub planned_of : World → Option Request → Option Plan
 planned_of world request = option_and_then (planned_for world) request
+
+abbrev pub is_true : Option Bool → Bool
+is_true (Some true) = true
+is_true _ = false
+
+-- the plan enables execution out of band
+abbrev pub enables_out_of_band : Plan → Bool
+enables_out_of_band plan = is_true (slice_get (filter_map enabled_by plan.acts) 0)
+
+-- the command mode that negotiation by a plan opens (QMP specification, "Capabilities Negotiation")
+abbrev pub mode_by : Option Plan → Mode
+mode_by None = Command
+mode_by (Some plan) = if enables_out_of_band plan then CommandOob else Command

@@ -8,7 +8,7 @@ use Rattle.qm_core.specs.declared.inputs.BadInput.TheVariants as bad
 use Rattle.qm_core.specs.declared.inputs.JsonWord.TheVariants.{Expected, Duplicate, BadEscape, BadUtf8}
 use Rattle.qm_core.specs.{Inputs.arguments_in, declared.inputs.Input.Input, declared.world.World.World}
 use Rattle.qm_core.specs.declared.verdicts.{Class.Class, Class.TheVariants.GenericError, Class.TheVariants.CommandNotFound}
-use Rattle.qm_core.specs.Verdicts.{Refusal, Malformed, NotAnObject, UnexpectedMember, TwoVerbs, NoVerb, VerbNoString, ArgumentsNoObject, NegotiationExpected, NegotiationComplete, UnknownCommand, Misfit}
+use Rattle.qm_core.specs.Verdicts.{Refusal, Malformed, NotAnObject, UnexpectedMember, TwoVerbs, NoVerb, VerbNoString, ArgumentsNoObject, NegotiationExpected, NegotiationComplete, UnknownCommand, NotOutOfBand, Misfit}
 
 -- what a message is called that is no message or no value
 abbrev pub frame_desc_of : FrameWord → List ℕ
@@ -48,6 +48,7 @@ desc_of world input ArgumentsNoObject = codes "QMP input member 'arguments' must
 desc_of world input NegotiationExpected = codes "Expecting capabilities negotiation with 'qmp_capabilities'"
 desc_of world input NegotiationComplete = codes "Capabilities negotiation is already complete, command ignored"
 desc_of world input (UnknownCommand name) = codes "The command " ++ name ++ codes " has not been found"
+desc_of world input (NotOutOfBand name) = codes "The command " ++ name ++ codes " does not support OOB"
 desc_of world input (Misfit fault path) = misfit_desc_of fault (printed_path world.schema.kinds (arguments_in input) path)
 
 -- the class of a refusal

@@ -1,11 +1,11 @@
 -- Replies (QMP specification, "Commands Responses").
 use Rattle.std.specs.Prelude.{Bool, List, [], ◌∷◌, codes, ℕ, Option, Some, None, Ok, Err}
-use Rattle.qm_json.specs.{declared.value.Json.Json, declared.value.Member.Member, Members.has_name, Members.members_of, Members.member_of}
+use Rattle.qm_json.specs.{declared.value.Json.Json, declared.value.Member.Member, Members.has_name, Members.members_of}
 use Rattle.qm_json.specs.declared.value.Json.TheVariants as json
 use Rattle.qm_caps.specs.Greetings.{named}
 use Rattle.qm_plan.specs.Stores.{Contents}
-use Rattle.qm_core.specs.{Effects.Effect, Effects.effect_of, Planned.plan_for, Refusals.class_of, Refusals.class_name_of, Refusals.desc_of, Verdicts.Verdict, Verdicts.Refused, Verdicts.Run, Verdicts.verdict_of}
-use Rattle.qm_core.specs.declared.{inputs.Input.Input, inputs.Input.TheVariants.Doc, inputs.Input.TheVariants.Bad, requests.Request.Request, world.World.World}
+use Rattle.qm_core.specs.{Effects.Effect, Effects.effect_of, Inputs.id_in, Planned.plan_for, Refusals.class_of, Refusals.class_name_of, Refusals.desc_of, Verdicts.Verdict, Verdicts.Refused, Verdicts.Run, Verdicts.verdict_of}
+use Rattle.qm_core.specs.declared.{inputs.Input.Input, requests.Request.Request, world.World.World}
 use Rattle.qm_core.specs.declared.verdicts.Class.{Class, TheVariants.GenericError}
 
 abbrev pub id_members : Option Json → List Member
@@ -14,8 +14,7 @@ id_members (Some id) = named (codes "id") id ∷ []
 
 -- the member `id`, where the request is an object with that member
 abbrev pub id_of : Input → List Member
-id_of (Doc value) = id_members (member_of value (codes "id"))
-id_of (Bad bad) = []
+id_of input = id_members (id_in input)
 
 abbrev pub error_value : Class → List ℕ → Json
 error_value class desc = json.Obj (named (codes "class") (json.Str (class_name_of class)) ∷ named (codes "desc") (json.Str desc) ∷ [])

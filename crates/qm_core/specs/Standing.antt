@@ -1,10 +1,13 @@
 -- What stands in a journal (this project's own rule).
 -- "past" is the entries before a place, the newest first.
-use Rattle.std.specs.Prelude.{ℕ, ◌+◌, ◌==◌, nat_le, max, Bool, false, not, if◌then◌else◌, ◌&&◌, List, [], ◌∷◌, ◌++◌, length, codes, filter, find, count_by, Option, Some, None, slice_get, option_map, unwrap_or}
-use Rattle.std.specs.{List.list_any, List.list_all, Option.option_and_then, Str.bytes_eq}
-use Rattle.qm_caps.specs.declared.mode.Mode.{Mode, TheVariants.Negotiating, TheVariants.Command}
-use Rattle.qm_core.specs.{Inputs.command_of, Replies.is_return, declared.entries.Entry.Entry}
-use Rattle.qm_core.specs.declared.{entries.Entry.TheVariants.Open, entries.Entry.TheVariants.Admit, entries.Entry.TheVariants.Start, entries.Entry.TheVariants.Done, entries.Entry.TheVariants.Eof, entries.Entry.TheVariants.Drop, requests.Request.Request, requests.RequestName.RequestName}
+use Rattle.std.specs.Prelude.{ℕ, ◌+◌, ◌==◌, max, Bool, false, not, if◌then◌else◌, ◌&&◌, ◌||◌, List, [], ◌∷◌, ◌++◌, length, codes, filter, find, map, count_by, Option, Some, None, slice_get, option_map, unwrap_or}
+use Rattle.std.specs.{List.list_any, Option.option_and_then, Str.bytes_eq}
+use Rattle.qm_json.specs.declared.value.Json.{Json}
+use Rattle.qm_caps.specs.{Lanes.is_in_band, Modes.is_negotiating, declared.mode.Mode.Mode, declared.mode.Mode.TheVariants.Negotiating}
+use Rattle.qm_queue.specs.{Turns.turn_of as first_turn, declared.turns.TurnItem.TurnItem}
+use Rattle.qm_core.specs.{Inputs.command_of, Planned.mode_by, Replies.is_return, declared.entries.Entry.Entry}
+use Rattle.qm_core.specs.declared.entries.Entry.TheVariants.{Open, Admit, Start, Done, OobDone, Eof, Drop}
+use Rattle.qm_core.specs.declared.{inputs.Input.Input, requests.Request.Request, requests.RequestName.RequestName}
 
 -- the sessions that were opened, in order
 abbrev pub sessions_of : List Entry → List ℕ
@@ -46,24 +49,28 @@ open_count_of past = count_by (λ s. is_open s past) (sessions_of past)
 abbrev pub admitted_of : ℕ → List Entry → ℕ
 admitted_of s past = count_by (admits s) past
 
--- the request names the command that opens the command modes
-abbrev pub negotiates : Option Request → Bool
-negotiates None = false
-negotiates (Some request) = bytes_eq (unwrap_or (command_of request.input) []) (codes "qmp_capabilities")
+-- the request names the command
+abbrev pub calls : List ℕ → Option Request → Bool
+calls name None = false
+calls name (Some request) = bytes_eq (unwrap_or (command_of request.input) []) name
+
+-- and is answered with a return
+abbrev pub answers : List ℕ → Option Request → Json → Bool
+answers name request reply = calls name request && is_return reply
 
 abbrev mutual
   -- the mode: commands are taken from the first time that negotiation was answered with a return
   pub mode_of : ℕ → List Entry → Mode
   mode_of s [] = Negotiating
   mode_of s (Done t k plan reply moment ∷ past) =
-      if t == s && (negotiates (running_of past) && is_return reply) then Command else mode_of s past
+      if t == s && (is_negotiating (mode_of s past) && answers (codes "qmp_capabilities") (running_of past) reply) then mode_by plan else mode_of s past
   mode_of s (e ∷ past) = mode_of s past
 
-  -- the session's admissions without a start, the oldest first; none after its drop
+  -- the session's in-band admissions without a start, the oldest first; none after its drop
   pub waiting_of : ℕ → List Entry → List Request
   waiting_of s [] = []
   waiting_of s (Admit t k lane input ∷ past) =
-      if t == s then waiting_of s past ++ record { session = t; number = k; mode = mode_of t past; input = input } ∷ [] else waiting_of s past
+      if t == s && is_in_band lane then waiting_of s past ++ record { session = t; number = k; mode = mode_of t past; input = input } ∷ [] else waiting_of s past
   waiting_of s (Start t k ∷ past) = if t == s then filter (λ request. not (request.number == k)) (waiting_of s past) else waiting_of s past
   waiting_of s (Drop t cause ∷ past) = if t == s then [] else waiting_of s past
   waiting_of s (e ∷ past) = waiting_of s past
@@ -75,7 +82,22 @@ abbrev mutual
   running_of (Done s k plan reply moment ∷ past) = None
   running_of (e ∷ past) = running_of past
 
--- how many requests of the session wait or run
+-- the session's admission out of band without a reply; none after its drop
+abbrev pub open_out_of_band_of : ℕ → List Entry → Option Request
+open_out_of_band_of s [] = None
+open_out_of_band_of s (Admit t k lane input ∷ past) =
+    if t == s && not (is_in_band lane) then Some record { session = t; number = k; mode = mode_of t past; input = input } else open_out_of_band_of s past
+open_out_of_band_of s (OobDone t k plan reply moment ∷ past) = if t == s then None else open_out_of_band_of s past
+open_out_of_band_of s (Drop t cause ∷ past) = if t == s then None else open_out_of_band_of s past
+open_out_of_band_of s (e ∷ past) = open_out_of_band_of s past
+
+-- `quit` was answered with a return
+abbrev pub is_stopped : List Entry → Bool
+is_stopped [] = false
+is_stopped (Done s k plan reply moment ∷ past) = answers (codes "quit") (running_of past) reply || is_stopped past
+is_stopped (e ∷ past) = is_stopped past
+
+-- how many in-band requests of the session wait or run
 abbrev pub is_of : ℕ → Option Request → Bool
 is_of s None = false
 is_of s (Some request) = request.session == s
@@ -87,21 +109,25 @@ in_flight_of s past = length (waiting_of s past) + (if is_of s (running_of past)
 abbrev pub last_moment_of : List Entry → ℕ
 last_moment_of [] = 0
 last_moment_of (Done s k plan reply moment ∷ past) = max moment (last_moment_of past)
+last_moment_of (OobDone s k plan reply moment ∷ past) = max moment (last_moment_of past)
 last_moment_of (e ∷ past) = last_moment_of past
 
--- the place of the session's last start, from 1 on; 0 without one
-abbrev pub last_start_of : ℕ → List Entry → ℕ
-last_start_of s [] = 0
-last_start_of s (Start t k ∷ past) = if t == s then length past + 1 else last_start_of s past
+-- the number of the entry that last started a request of the session
+abbrev pub last_start_of : ℕ → List Entry → Option ℕ
+last_start_of s [] = None
+last_start_of s (Start t k ∷ past) = if t == s then Some (length past + 1) else last_start_of s past
 last_start_of s (e ∷ past) = last_start_of s past
 
--- the open sessions that wait
-abbrev pub ready_sessions_of : List Entry → List ℕ
-ready_sessions_of past = filter (λ s. is_open s past && not (length (waiting_of s past) == 0)) (sessions_of past)
+-- it is open, and a request of it waits
+abbrev pub is_ready : ℕ → List Entry → Bool
+is_ready s past = is_open s past && not (length (waiting_of s past) == 0)
 
--- of these, the one whose last start stands earliest; ties go to the lower number
+abbrev pub turn_item : List Entry → ℕ → TurnItem
+turn_item past s = record { session = s; last_start = last_start_of s past }
+
+-- the session whose turn it is among those that are ready
 abbrev pub turn_of : List Entry → Option ℕ
-turn_of past = find (λ s. list_all (λ t. nat_le (last_start_of s past) (last_start_of t past)) (ready_sessions_of past)) (ready_sessions_of past)
+turn_of past = first_turn (map (turn_item past) (filter (λ s. is_ready s past) (sessions_of past)))
 
 -- the request to be started: the least that waits of that session
 abbrev pub starting_of : List Entry → Option Request
@@ -110,3 +136,7 @@ starting_of past = option_and_then (λ s. slice_get (waiting_of s past) 0) (turn
 -- a request by its session and number
 abbrev pub named_of : Option Request → Option RequestName
 named_of request = option_map (λ q. record { session = q.session; number = q.number }) request
+
+-- the request that an input makes which the session admits next
+abbrev pub next_request : ℕ → Input → List Entry → Request
+next_request s input past = record { session = s; number = admitted_of s past + 1; mode = mode_of s past; input = input }

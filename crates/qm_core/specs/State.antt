@@ -3,7 +3,7 @@ use Rattle.std.specs.Prelude.{if◌then◌else◌, List, [], ◌∷◌, Option, 
 use Rattle.qm_json.specs.declared.value.Json.{Json}
 use Rattle.qm_plan.specs.{Applying.Outcome, Applying.applied_of, Stores.Contents, Stores.first_of}
 use Rattle.qm_plan.specs.declared.{applied.ApplyFault.ApplyFault, recipes.Plan.Plan}
-use Rattle.qm_core.specs.{Effects.Effect, Effects.effect_of, Effects.facts_of, Planned.plan_for, Replies.is_return, declared.entries.Entry.Entry, declared.entries.Entry.TheVariants.Done, declared.requests.Request.Request, declared.world.World.World}
+use Rattle.qm_core.specs.{Effects.Effect, Effects.effect_of, Effects.facts_of, Planned.plan_for, Replies.is_return, declared.entries.Entry.Entry, declared.entries.Entry.TheVariants.Done, declared.entries.Entry.TheVariants.OobDone, declared.requests.Request.Request, declared.world.World.World}
 use Rattle.qm_core.specs.Verdicts.{Verdict, Refused, Run}
 
 -- the store that a plan leaves; one that fails leaves the store as it was
@@ -32,4 +32,5 @@ stored world store (Some plan) reply = if is_return reply then left_by store (ap
 abbrev pub store_of : World → List Entry → Contents
 store_of world [] = first_of world.binding.cells world.binding.tallies
 store_of world (Done s k plan reply moment ∷ past) = stored world (store_of world past) plan reply
+store_of world (OobDone s k plan reply moment ∷ past) = stored world (store_of world past) plan reply
 store_of world (e ∷ past) = store_of world past

@@ -1,9 +1,9 @@
 -- The text of a journal (this project's own rule). Lines end with LF.
 use Rattle.std.specs.Prelude.{ℕ, ◌+◌, List, [], ◌∷◌, ◌++◌, codes, find, length, Option}
 use Rattle.std.specs.{Fmt.decimal, List.flat_map, Str.bytes_eq}
-use Rattle.qm_json.specs.Printing.{printed}
+use Rattle.qm_json.specs.{Printing.printed, declared.value.Json.Json}
 use Rattle.qm_caps.specs.declared.mode.Lane.{Lane, TheVariants.InBand, TheVariants.Oob}
-use Rattle.qm_core.specs.declared.entries.{Cause.Cause, Entry.Entry, Entry.TheVariants.Open, Entry.TheVariants.Admit, Entry.TheVariants.Start, Entry.TheVariants.Done, Entry.TheVariants.Take, Entry.TheVariants.Eof, Entry.TheVariants.Drop}
+use Rattle.qm_core.specs.declared.entries.{Cause.Cause, Entry.Entry, Entry.TheVariants.Open, Entry.TheVariants.Admit, Entry.TheVariants.Start, Entry.TheVariants.Done, Entry.TheVariants.OobDone, Entry.TheVariants.Take, Entry.TheVariants.Eof, Entry.TheVariants.Drop}
 use Rattle.qm_core.specs.declared.entries.Cause.TheVariants as cause
 use Rattle.qm_core.specs.declared.inputs.{BadInput.BadInput, FrameWord.FrameWord, FrameWord.TheVariants.LexError, FrameWord.TheVariants.Unbalanced, FrameWord.TheVariants.TooDeep, FrameWord.TheVariants.TooLong}
 use Rattle.qm_core.specs.declared.inputs.BadInput.TheVariants as bad
@@ -57,6 +57,10 @@ cause_of word = find (λ c. bytes_eq word (cause_word_of c)) causes
 abbrev pub request_text_of : ℕ → ℕ → List ℕ
 request_text_of s k = decimal s ++ codes " " ++ decimal k
 
+-- a request and its reply
+abbrev pub answer_text_of : ℕ → ℕ → Json → ℕ → List ℕ
+answer_text_of s k reply moment = request_text_of s k ++ codes " @" ++ decimal moment ++ codes " " ++ printed reply ++ codes "\n"
+
 abbrev pub taken_text_of : List ℕ → List ℕ
 taken_text_of line = codes "> " ++ line ++ codes "\n"
 
@@ -65,7 +69,8 @@ abbrev pub entry_body_of : Entry → List ℕ
 entry_body_of (Open s) = codes " open " ++ decimal s ++ codes "\n"
 entry_body_of (Admit s k lane input) = codes " admit " ++ request_text_of s k ++ codes " " ++ lane_word_of lane ++ codes " " ++ input_text_of input ++ codes "\n"
 entry_body_of (Start s k) = codes " start " ++ request_text_of s k ++ codes "\n"
-entry_body_of (Done s k plan reply moment) = codes " done " ++ request_text_of s k ++ codes " @" ++ decimal moment ++ codes " " ++ printed reply ++ codes "\n"
+entry_body_of (Done s k plan reply moment) = codes " done " ++ answer_text_of s k reply moment
+entry_body_of (OobDone s k plan reply moment) = codes " oob-done " ++ answer_text_of s k reply moment
 entry_body_of (Take s lines) = codes " take " ++ decimal s ++ codes " " ++ decimal (length lines) ++ codes "\n" ++ flat_map taken_text_of lines
 entry_body_of (Eof s) = codes " eof " ++ decimal s ++ codes "\n"
 entry_body_of (Drop s cause) = codes " drop " ++ decimal s ++ codes " " ++ cause_word_of cause ++ codes "\n"

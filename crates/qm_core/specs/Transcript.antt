@@ -4,7 +4,7 @@ use Rattle.std.specs.List.{flat_map, list_any, take_while}
 use Rattle.qm_json.specs.Printing.{printed}
 use Rattle.qm_caps.specs.Greetings.{greeting_value}
 use Rattle.qm_core.specs.{Standing.is_open, declared.TheConstants.MOST_UNTAKEN, declared.entries.Entry.Entry}
-use Rattle.qm_core.specs.declared.entries.Entry.TheVariants.{Open, Done, Take}
+use Rattle.qm_core.specs.declared.entries.Entry.TheVariants.{Open, Done, OobDone, Take}
 
 -- the lines on the wire, each ended by CR LF
 abbrev pub wire_of : List (List ℕ) → List ℕ
@@ -37,6 +37,8 @@ candidates_of s [] = []
 candidates_of s (Open t ∷ past) =
     if t == s then with_line (candidates_of s past) (taken_of s past) (printed greeting_value) else candidates_of s past
 candidates_of s (Done t k plan reply moment ∷ past) =
+    if t == s && is_open s past then with_line (candidates_of s past) (taken_of s past) (printed reply) else candidates_of s past
+candidates_of s (OobDone t k plan reply moment ∷ past) =
     if t == s && is_open s past then with_line (candidates_of s past) (taken_of s past) (printed reply) else candidates_of s past
 candidates_of s (e ∷ past) = candidates_of s past
 

@@ -1,15 +1,14 @@
 -- The verdict on a request: the first check that it fails, or the command that takes effect (QMP
 -- specification, "Issuing Commands" and "Capabilities Negotiation"; the order of the checks is this
 -- project's own rule).
-use Rattle.std.specs.Prelude.{ℕ, Bool, true, false, not, if◌then◌else◌, ◌&&◌, ◌||◌, List, [], ◌∷◌, codes, Option, Some, None, option_map, find, ◌<◌, length}
+use Rattle.std.specs.Prelude.{ℕ, Bool, false, not, if◌then◌else◌, ◌&&◌, ◌||◌, List, [], ◌∷◌, codes, Option, Some, None, option_map, find, ◌<◌, length, slice_get}
 use Rattle.std.specs.{Option.option_and_then, Option.option_map_or, Str.bytes_eq}
 use Rattle.qm_json.specs.{declared.value.Json.Json, declared.value.Member.Member, Members.has_name, Members.members_of}
-use Rattle.qapi_types.specs.Lookups.{place_of, command_names}
+use Rattle.qapi_types.specs.{Lookups.place_of, Lookups.command_names, declared.parts.CommandDef.CommandDef}
 use Rattle.qm_admit.specs.declared.verdict.Verdict.{Verdict as Admission, TheVariants.Yes, TheVariants.No}
 use Rattle.qm_admit.specs.declared.{path.PathStep.PathStep, verdict.Fault.Fault}
 use Rattle.qm_admit.specs.{Misfits.command_misfit, Misfits.is_object, Misfits.verdict_of as admission_of, Views.string_of}
-use Rattle.qm_caps.specs.declared.mode.Mode.{Mode}
-use Rattle.qm_caps.specs.declared.mode.Mode.TheVariants as mode
+use Rattle.qm_caps.specs.{Lanes.is_in_band, Lanes.lane_of, Modes.is_negotiating, Modes.may_be_out_of_band, declared.mode.Lane.Lane, declared.mode.Mode.Mode}
 use Rattle.qm_core.specs.{Inputs.is_verb, Inputs.arguments_of, declared.inputs.Input.Input, declared.world.World.World}
 use Rattle.qm_core.specs.declared.inputs.{BadInput.BadInput, Input.TheVariants.Doc, Input.TheVariants.Bad}
 
@@ -26,6 +25,7 @@ pub data Refusal : Type 0 where
   NegotiationExpected : Refusal
   NegotiationComplete : Refusal
   UnknownCommand : List ℕ → Refusal
+  NotOutOfBand : List ℕ → Refusal
   Misfit : Fault → List PathStep → Refusal
 
 -- what is made of a request before it takes effect: it is refused, or the command of the number
@@ -48,14 +48,6 @@ first_of (Some refusal ∷ others) = Some refusal
 abbrev pub refused_or : Option Refusal → Verdict → Verdict
 refused_or (Some refusal) other = Refused refusal
 refused_or None other = other
-
-abbrev pub may_be_out_of_band : Mode → Bool
-may_be_out_of_band mode.CommandOob = true
-may_be_out_of_band _ = false
-
-abbrev pub is_negotiating : Mode → Bool
-is_negotiating mode.Negotiating = true
-is_negotiating _ = false
 
 -- a member that a request may have
 abbrev pub is_expected : Mode → Member → Bool
@@ -88,9 +80,19 @@ abbrev pub admitted_run : ℕ → Admission → Verdict
 admitted_run command Yes = Run command
 admitted_run command (No fault path) = Refused (Misfit fault path)
 
-abbrev pub run_of : World → List ℕ → Option Json → Option ℕ → Verdict
-run_of world name arguments None = Refused (UnknownCommand name)
-run_of world name arguments (Some command) = admitted_run command (admission_of (command_misfit world.schema command arguments))
+-- the command is marked as one that may be run out of band
+abbrev pub allows_out_of_band : World → ℕ → Bool
+allows_out_of_band world command = option_map_or (λ (c : CommandDef). c.allow_oob) (slice_get world.schema.commands command) false
+
+-- it is asked for out of band, and is not so marked
+abbrev pub unsupported : World → Lane → List ℕ → ℕ → Option Refusal
+unsupported world lane name command = where_holds (not (is_in_band lane) && not (allows_out_of_band world command)) (NotOutOfBand name)
+
+-- the checks of the command that has the name, if one has
+abbrev pub run_of : World → Lane → List ℕ → Option Json → Option ℕ → Verdict
+run_of world lane name arguments None = Refused (UnknownCommand name)
+run_of world lane name arguments (Some command) =
+    refused_or (unsupported world lane name command) (admitted_run command (admission_of (command_misfit world.schema command arguments)))
 
 -- a command that takes effect is one of the world's
 abbrev pub IsKnown : World → Verdict → Type 0
@@ -101,7 +103,7 @@ IsKnown world (Run command) = command < length world.schema.commands
 abbrev pub command_verdict_of : World → Mode → Json → List ℕ → Verdict
 command_verdict_of world mode value name =
     refused_or (first_of (bad_arguments value ∷ misplaced mode name ∷ []))
-    (run_of world name (arguments_of value) (place_of (command_names world.schema) name))
+    (run_of world (lane_of mode value) name (arguments_of value) (place_of (command_names world.schema) name))
 
 -- the verdict by the member that names the command
 abbrev pub verb_verdict_of : World → Mode → Json → Option Member → Verdict

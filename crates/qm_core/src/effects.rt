@@ -6,7 +6,7 @@ ghost use Rattle.qm_admit.specs.Misfits.{return_misfit, verdict_of as admission_
 ghost use Rattle.qm_plan.specs.Applying.{applied_of};
 ghost use Rattle.qm_plan.specs.Stores.{committed};
 ghost use Rattle.qm_plan.specs.declared.applied.ApplyFault.TheVariants.{Memory};
-ghost use Rattle.qm_core.specs.Effects.{command_name_at, effect_of, facts_of, failure_text, full_text, is_true, named_effect, outcome_effect, applied_effect, returned as returned_by, unbuilt_names, unbuilt_text};
+ghost use Rattle.qm_core.specs.Effects.{command_name_at, effect_of, facts_of, failure_text, full_text, named_effect, outcome_effect, applied_effect, returned as returned_by, unbuilt_names, unbuilt_text};
 ghost use Rattle.qm_core.specs.State.{left_by};
 
 use crate::world::{Setting, World};
@@ -29,8 +29,7 @@ pub(crate) struct Ended {
 fn is_unbuilt(name: &[u8]) -> bool
     ensures { result ≡ is_named unbuilt_names name.now }
 {
-    name == b"quit".as_slice()
-        || name == b"query-jobs".as_slice()
+    name == b"query-jobs".as_slice()
         || name == b"job-cancel".as_slice()
         || name == b"job-pause".as_slice()
         || name == b"job-resume".as_slice()
@@ -90,12 +89,6 @@ fn failed(alloc: Global, text: Text) -> Ended
     }
 }
 
-fn is_true(choice: Option<bool>) -> bool
-    ensures { result ≡ is_true choice }
-{
-    matches!(choice, Some(true))
-}
-
 fn outcome_ending(
     alloc: Global,
     world: &World,
@@ -104,14 +97,11 @@ fn outcome_ending(
 ) -> Result<Ended, NoMemory>
     requires id { command < length world.now.schema.commands }
     ensures effect { IfOk result (λ ending. ending.effect
-        ≡ outcome_effect world.now command applied.enable applied.ret) }
+        ≡ outcome_effect world.now command applied.ret) }
     ensures changes { IfOk result (λ ending. IfOk ending.effect (λ _.
         ending.changes ≡ applied.changes)) }
     ensures none { IfOk result (λ ending. OnErr ending.effect (ending.changes ≡ [])) }
 {
-    if is_true(applied.enable) {
-        return Ok(failed(alloc, Text::of(alloc, b"The capability oob is not built")?));
-    }
     let Applied { ret, changes, .. } = applied;
     match returned(alloc, world, command, ret)? {
         Ok(value) => Ok(Ended {

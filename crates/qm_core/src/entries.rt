@@ -68,6 +68,19 @@ pub enum Entry {
         /// When, in microseconds.
         moment: u64,
     },
+    /// The request of a session that is open out of band was finished.
+    OobDone {
+        /// Its session.
+        session: u32,
+        /// Its number in the session.
+        number: u64,
+        /// What its command does and returns, where the request was not refused.
+        plan: Option<Plan>,
+        /// The reply.
+        reply: Json,
+        /// When, in microseconds.
+        moment: u64,
+    },
     /// Lines were handed out to the client.
     Take {
         /// Its session.
@@ -101,6 +114,9 @@ pub enum StepFault {
     /// The session's input has ended.
     #[error("the input has ended")]
     InputEnded,
+    /// A request of the session is open out of band.
+    #[error("a request is open out of band")]
+    OobOpen,
     /// As many requests of the session wait or run as its mode allows.
     #[error("too many requests are in flight")]
     Busy,
@@ -110,12 +126,18 @@ pub enum StepFault {
     /// This request is not the running one.
     #[error("the request is not running")]
     NotRunning,
+    /// This request is not the one that is open out of band.
+    #[error("the request is not open")]
+    NotOpen,
     /// The session's input has not ended, or not all was answered and taken.
     #[error("the session is not drained")]
     NotDrained,
     /// The cause does not hold.
     #[error("the cause does not hold")]
     WrongCause,
+    /// A command has stopped the monitor.
+    #[error("the monitor is stopped")]
+    Stopping,
     /// As many sessions were opened as there can be.
     #[error("too many sessions were opened")]
     SessionsFull,

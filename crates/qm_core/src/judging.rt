@@ -1,33 +1,22 @@
-ghost use Rattle.std.specs.Prelude.{◌≡◌, ◌&&◌, not, find, codes, option_map};
+ghost use Rattle.std.specs.Prelude.{◌≡◌, ◌<◌, ◌&&◌, not, find, codes, length, option_map};
 ghost use Rattle.std.specs.Option.{option_copied};
 ghost use Rattle.qm_json.specs.Members.{has_name, members_of};
+ghost use Rattle.qm_caps.specs.Lanes.{is_in_band};
 ghost use Rattle.qapi_types.specs.Lookups.{command_names, place_of};
 ghost use Rattle.qm_admit.specs.Misfits.{is_object};
 ghost use Rattle.qm_admit.specs.Views.{string_of};
 ghost use Rattle.qm_core.specs.Inputs.{command_name_of, is_verb};
 ghost use Rattle.qm_core.specs.Judged.{told, told_verdict};
 ghost use Rattle.qm_core.specs.Planned.{command_by};
-ghost use Rattle.qm_core.specs.Verdicts.{IsKnown, bad_arguments, command_verdict_of, is_expected, is_negotiating, malformed, may_be_out_of_band, misplaced, request_verdict_of, run_of, verdict_of};
+ghost use Rattle.qm_core.specs.Verdicts.{IsKnown, allows_out_of_band, bad_arguments, command_verdict_of, is_expected, malformed, misplaced, request_verdict_of, run_of, verdict_of};
 
 use crate::arguments::arguments;
 use crate::inputs::Input;
 use crate::verdicts::{Refusal, Verdict};
 use crate::world::World;
 use qm_admit::{self, admit_args};
-use qm_caps::Mode;
+use qm_caps::{Lane, Mode, classify};
 use qm_json::{Json, Member, has_member};
-
-fn may_be_out_of_band(mode: Mode) -> bool
-    ensures { result ≡ may_be_out_of_band mode }
-{
-    matches!(mode, Mode::CommandOob)
-}
-
-fn is_negotiating(mode: Mode) -> bool
-    ensures { result ≡ is_negotiating mode }
-{
-    matches!(mode, Mode::Negotiating)
-}
 
 fn is_expected(mode: Mode, member: &Member) -> bool
     ensures { result ≡ is_expected mode member.now }
@@ -36,7 +25,7 @@ fn is_expected(mode: Mode, member: &Member) -> bool
     name == b"execute".as_slice()
         || name == b"arguments".as_slice()
         || name == b"id".as_slice()
-        || (may_be_out_of_band(mode) && name == b"exec-oob".as_slice())
+        || (mode.may_be_out_of_band() && name == b"exec-oob".as_slice())
 }
 
 fn is_verb(member: &Member) -> bool
@@ -130,23 +119,33 @@ fn misplaced(mode: Mode, name: &[u8]) -> Option<Refusal<'_>>
     ensures { option_map told result ≡ misplaced mode name.now }
 {
     let negotiates = name == b"qmp_capabilities".as_slice();
-    if is_negotiating(mode) && !negotiates {
+    if mode.is_negotiating() && !negotiates {
         return Some(Refusal::NegotiationExpected);
     }
-    if !is_negotiating(mode) && negotiates {
+    if !mode.is_negotiating() && negotiates {
         return Some(Refusal::NegotiationComplete);
     }
     None
 }
 
-fn run<'a>(world: &World, name: &'a [u8], arguments: Option<&Json>) -> Verdict<'a>
+fn is_unsupported(world: &World, lane: Lane, command: u32) -> bool
+    requires id { command < length world.now.schema.commands }
+    ensures { result ≡ (not (is_in_band lane) && not (allows_out_of_band world.now command)) }
+{
+    !lane.is_in_band() && !world.schema.command(command).allow_oob
+}
+
+fn run<'a>(world: &World, lane: Lane, name: &'a [u8], arguments: Option<&Json>) -> Verdict<'a>
     ensures value { let command = place_of (command_names world.now.schema) name.now in
-        told_verdict result ≡ run_of world.now name.now (option_copied arguments.entry) command }
+        told_verdict result ≡ run_of world.now lane name.now (option_copied arguments.entry) command }
     ensures known { IsKnown world.now (told_verdict result) }
 {
     let Some(command) = world.schema.find_command(name) else {
         return Verdict::Refused(Refusal::UnknownCommand(name));
     };
+    if is_unsupported(world, lane, command) {
+        return Verdict::Refused(Refusal::NotOutOfBand(name));
+    }
     match admit_args(&world.schema, command, arguments) {
         qm_admit::Verdict::Yes => Verdict::Run(command),
         qm_admit::Verdict::No(fault, path) => Verdict::Refused(Refusal::Misfit(fault, path)),
@@ -163,7 +162,7 @@ fn command_verdict<'a>(world: &World, mode: Mode, value: &'a Json, name: &'a [u8
     if let Some(refusal) = misplaced(mode, name) {
         return Verdict::Refused(refusal);
     }
-    run(world, name, arguments(value))
+    run(world, classify(value, mode), name, arguments(value))
 }
 
 fn request_verdict<'a>(world: &World, mode: Mode, value: &'a Json) -> Verdict<'a>

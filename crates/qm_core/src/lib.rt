@@ -20,6 +20,7 @@ pub mod requests;
 mod sessions;
 mod sizes;
 pub mod verdicts;
+mod waiting;
 mod words;
 pub mod world;
 

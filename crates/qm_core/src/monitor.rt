@@ -1,25 +1,28 @@
-ghost use Rattle.std.specs.Prelude.{◌≡◌, ◌≤◌, [], true, IfOk, OnOk};
+ghost use Rattle.std.specs.Prelude.{◌≡◌, ◌≤◌, ◌<◌, [], length, true, IfOk, IfSome, OnOk};
 ghost use Rattle.std.specs.Result.{result_err};
 ghost use Rattle.qm_core.specs.Legal.{HasRoom, IsLegal, past_of};
 ghost use Rattle.qm_core.specs.Next.{closed_refusal};
 ghost use Rattle.qm_core.specs.Planned.{planned_of};
 ghost use Rattle.qm_core.specs.State.{store_of};
 ghost use Rattle.qm_core.specs.Worlds.{IsReady};
-ghost use Rattle.qm_core.specs.Standing.{was_opened, admitted_of, is_dropped, open_count_of, in_flight_of, running_of, named_of};
+ghost use Rattle.qm_core.specs.Sessions.{session_at};
+ghost use Rattle.qm_core.specs.Standing.{sessions_of, was_opened, admitted_of, is_dropped, is_stopped, in_flight_of, running_of, open_out_of_band_of, named_of};
 ghost use Rattle.qm_core.specs.Transcript.{has_overrun};
 
 use crate::entries::StepFault;
 use crate::journal::{EntryList, Journal};
-use crate::plans::call_plan;
+use crate::plans::{call_plan, command};
 use crate::requests::{Request, RequestName};
 use crate::sessions::Session;
 use crate::world::{Setting, World};
 use qm_base::NoMemory;
 use qm_bind::Binding;
 use qm_plan::{Plan, Store};
+use qm_queue::TurnQueue;
 use std::alloc::Global;
 use std::marker::Model;
 
+mod reply_steps;
 mod request_steps;
 mod rooms;
 mod session_steps;
@@ -48,12 +51,31 @@ pub struct Monitor {
     world: Setting,
     limits: Limits,
     journal: Journal,
-    session: Session,
+    /// The sessions in the order of opening.
+    sessions: Vec<Session>,
+    /// Of each session the item of its turn, while a request of it waits.
+    turns: TurnQueue,
+    /// How many sessions are open.
+    open_count: u64,
     running: Option<Request>,
     /// The command of the running request that takes effect.
     command: Option<u32>,
     last_moment: u64,
+    /// Whether a command has stopped the monitor.
+    stopped: bool,
     store: Store,
+}
+
+fn name_of(request: &Option<Request>) -> Option<RequestName>
+    ensures { result ≡ named_of request.now }
+{
+    match request {
+        Some(request) => Some(RequestName {
+            session: request.session,
+            number: request.number,
+        }),
+        None => None,
+    }
 }
 
 impl Model for Monitor {
@@ -74,7 +96,7 @@ impl Model for Monitor {
 
 impl Monitor {
     ghost use Rattle.qm_core.specs.declared.TheConstants.{MOST_ENTRIES, MOST_TEXT};
-    ghost use Rattle.qm_core.specs.Kept.{IsFirstOpen};
+    ghost use Rattle.qm_core.specs.Kept.{IsOpen, kept_of};
 
     /// A monitor of a world with an empty journal, which has its places.
     pub fn new(alloc: Global, world: World, limits: Limits) -> Result<Monitor, NoMemory>
@@ -91,10 +113,13 @@ impl Monitor {
             world: Setting::new(alloc, world)?,
             limits,
             journal,
-            session: Session::unopened(alloc),
+            sessions: Vec::new(alloc),
+            turns: TurnQueue::new(alloc),
+            open_count: 0,
             running: None,
             command: None,
             last_moment: 0,
+            stopped: false,
             store,
         })
     }
@@ -119,13 +144,7 @@ impl Monitor {
     pub fn running(&self) -> Option<RequestName>
         ensures { result ≡ named_of (running_of (past_of self.now.journal)) }
     {
-        match &self.running {
-            Some(request) => Some(RequestName {
-                session: request.session,
-                number: request.number,
-            }),
-            None => None,
-        }
+        name_of(&self.running)
     }
 
     /// The plan of the running request: its command's recipe with its arguments filled in; none
@@ -145,23 +164,66 @@ impl Monitor {
 
     /// Whether the session was opened.
     pub fn is_known(&self, session: u32) -> bool
-        ensures { result ≡ was_opened session (past_of self.now.journal) }
+        ensures known { result ≡ was_opened session (past_of self.now.journal) }
+        ensures counted { result ≡ true → (0 < session) × (session ≤ length (sessions_of (past_of self.now.journal))) }
     {
-        self.session.opened && session == 1
+        session > 0 && session as usize <= self.sessions.len()
+    }
+
+    /// What is kept of a session that was opened.
+    fn session(&self, session: u32) -> &Session
+        requires { was_opened session (past_of self.now.journal) ≡ true }
+        ensures { kept_of result.now ≡ session_at (past_of self.now.journal) session }
+    {
+        &self.sessions[session as usize - 1]
     }
 
     /// Whether the session was closed.
     pub fn is_closed(&self, session: u32) -> bool
         ensures { result ≡ is_dropped session (past_of self.now.journal) }
     {
-        session == 1 && self.session.dropped
+        self.is_known(session) && self.session(session).dropped
     }
 
     /// Whether a line of the session did not fit into its outbox, so that it gets no line any more.
     pub fn is_overrun(&self, session: u32) -> bool
         ensures { result ≡ has_overrun session (past_of self.now.journal) }
     {
-        session == 1 && self.session.overrun
+        self.is_known(session) && self.session(session).overrun
+    }
+
+    /// Whether a command has stopped the monitor.
+    pub fn is_stopped(&self) -> bool
+        ensures { result ≡ is_stopped (past_of self.now.journal) }
+    {
+        self.stopped
+    }
+
+    /// The request of a session that was opened which is open out of band.
+    pub fn open_out_of_band(&self, session: u32) -> Option<RequestName>
+        requires { was_opened session (past_of self.now.journal) ≡ true }
+        ensures { result ≡ named_of (open_out_of_band_of session (past_of self.now.journal)) }
+    {
+        name_of(&self.session(session).open_out_of_band)
+    }
+
+    /// The plan of that request; none where there is no such request, or the verdict on it is a
+    /// refusal.
+    pub fn planned_out_of_band(&self, alloc: Global, session: u32) -> Result<Option<Plan>, NoMemory>
+        requires { was_opened session (past_of self.now.journal) ≡ true }
+        ensures { let request = open_out_of_band_of session (past_of self.now.journal) in
+            IfOk result (λ plan. plan ≡ planned_of self.now.world request) }
+    {
+        let Some(request) = &self.session(session).open_out_of_band else {
+            return Ok(None);
+        };
+        match command(self.world.world(), request) {
+            Some(command) => {
+                let plan = call_plan(alloc, self.world.world(), request, command)?;
+                Ok(Some(plan))
+            }
+            None => Ok(None),
+        }
     }
 
     /// How many requests of a session that was opened were admitted.
@@ -169,33 +231,30 @@ impl Monitor {
         requires { was_opened session (past_of self.now.journal) ≡ true }
         ensures { result ≡ admitted_of session (past_of self.now.journal) }
     {
-        let _session = session;
-        self.session.admitted
+        self.session(session).admitted
     }
 
-    fn open_count(&self) -> u64
-        ensures exact { result ≡ open_count_of (past_of self.now.journal) }
-        ensures few { result ≤ 1 }
+    fn in_flight(&self, session: u32, state: &Session) -> u32
+        requires { kept_of state.now ≡ session_at (past_of self.now.journal) session }
+        ensures { result ≡ in_flight_of session (past_of self.now.journal) }
     {
-        u64::from(self.session.is_open())
+        let runs = matches!(&self.running, Some(request) if request.session == session);
+        state.waiting.len() + u32::from(runs)
     }
 
-    fn in_flight(&self) -> u32
-        ensures { result ≡ in_flight_of 1 (past_of self.now.journal) }
-    {
-        u32::from(self.session.waiting.is_some()) + u32::from(self.running.is_some())
-    }
-
-    fn open_session(&self, session: u32) -> Result<(), StepFault>
-        ensures open { OnOk result (IsFirstOpen (past_of self.now.journal) session) }
+    fn open_session(&self, session: u32) -> Result<&Session, StepFault>
+        ensures state { IfOk result (λ state.
+            kept_of state.now ≡ session_at (past_of self.now.journal) session) }
+        ensures open { OnOk result (IsOpen (past_of self.now.journal) session) }
         ensures fault { result_err result ≡ closed_refusal session (past_of self.now.journal) }
     {
         if !self.is_known(session) {
             return Err(StepFault::NoSession);
         }
-        if self.session.dropped {
+        let state = self.session(session);
+        if state.dropped {
             return Err(StepFault::Closed);
         }
-        Ok(())
+        Ok(state)
     }
 }

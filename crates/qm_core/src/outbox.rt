@@ -1,5 +1,5 @@
 ghost use Rattle.std.specs.Prelude.{◌≡◌, ◌≤◌, [], ◌∷◌, ◌++◌, length, true, OnOk, OnErr};
-ghost use Rattle.qm_core.specs.Kept.{fits as fits_into};
+ghost use Rattle.qm_core.specs.Sessions.{fits as fits_into};
 ghost use Rattle.qm_core.specs.Transcript.{wire_of};
 ghost use Rattle.qm_core.specs.declared.TheConstants.{MOST_UNTAKEN};
 

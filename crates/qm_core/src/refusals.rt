@@ -136,6 +136,9 @@ pub(crate) fn desc(
         Refusal::UnknownCommand(name) => {
             with_name(alloc, b"The command ", name, b" has not been found")
         }
+        Refusal::NotOutOfBand(name) => {
+            with_name(alloc, b"The command ", name, b" does not support OOB")
+        }
         Refusal::Misfit(fault, path) => misfit_desc(alloc, world, input, *fault, path),
     }
 }
@@ -154,6 +157,7 @@ pub(crate) fn class(refusal: &Refusal<'_>) -> Class
         | Refusal::NoVerb
         | Refusal::VerbNoString(_)
         | Refusal::ArgumentsNoObject
+        | Refusal::NotOutOfBand(_)
         | Refusal::Misfit(_, _) => Class::GenericError,
     }
 }

@@ -3,15 +3,15 @@ ghost use Rattle.std.specs.Option.{option_copied};
 ghost use Rattle.qm_json.specs.Members.{has_name};
 ghost use Rattle.qm_caps.specs.Greetings.{named};
 ghost use Rattle.qm_json.specs.declared.value.Json.TheVariants as json;
-ghost use Rattle.qm_plan.specs.Applying.{applied_of};
+ghost use Rattle.qm_plan.specs.Applying.{applied_of, enabled_by};
 ghost use Rattle.qm_plan.specs.Stores.{committed};
 ghost use Rattle.qm_core.specs.Effects.{effect_of, facts_of};
 ghost use Rattle.qm_core.specs.Judged.{told, told_verdict};
-ghost use Rattle.qm_core.specs.Planned.{command_by, command_for, plan_for, planned_for};
+ghost use Rattle.qm_core.specs.Planned.{command_by, command_for, enables_out_of_band as enables_out_of_band_by, mode_by, plan_for, planned_for};
 ghost use Rattle.qm_core.specs.Refusals.{class_of, desc_of};
 ghost use Rattle.qm_core.specs.Replies.{effect_member, error_value, id_members, id_of, is_return, outcome_of, reply_to};
 ghost use Rattle.qm_core.specs.State.{effect_store, stored, verdict_store};
-ghost use Rattle.qm_core.specs.Standing.{negotiates};
+ghost use Rattle.qm_core.specs.Standing.{calls as calls_by};
 ghost use Rattle.qm_core.specs.Verdicts.{IsKnown, verdict_of};
 
 use crate::effects::{Effect, Ended, ending};
@@ -23,7 +23,8 @@ use crate::verdicts::{Class, Refusal, Verdict};
 use crate::world::{Setting, World};
 use qm_base::{NoMemory, Text};
 use qm_json::{Json, Members, has_member};
-use qm_plan::{Plan, Store, StoreChangeList};
+use qm_caps::Mode;
+use qm_plan::{Act, Plan, Store, StoreChangeList};
 use std::alloc::Global;
 
 fn error(alloc: Global, class: Class, desc: Text) -> Result<Json, NoMemory>
@@ -243,15 +244,41 @@ pub(crate) fn is_return(reply: &Json) -> bool
     has_member(members(reply), b"return")
 }
 
-/// Whether a request names the command that opens the command modes.
-pub(crate) fn negotiates(request: &Request) -> bool
-    ensures { result ≡ negotiates (Some request.now) }
+/// Whether a request names the command.
+pub(crate) fn calls(request: &Request, name: &[u8]) -> bool
+    ensures { result ≡ calls_by name.now (Some request.now) }
 {
     match &request.input {
         Input::Doc(value) => match command_name(value.get()) {
-            Some(name) => name == b"qmp_capabilities".as_slice(),
-            None => false,
+            Some(named) => named == name,
+            None => name.is_empty(),
         },
-        Input::Bad(_) => false,
+        Input::Bad(_) => name.is_empty(),
+    }
+}
+
+fn enabled(act: &Act) -> Option<bool>
+    ensures { result ≡ enabled_by act.now }
+{
+    match act {
+        Act::Enable(oob) => Some(*oob),
+        _ => None,
+    }
+}
+
+fn enables_out_of_band(plan: &Plan) -> bool
+    ensures { result ≡ enables_out_of_band_by plan.now }
+{
+    matches!(plan.acts.as_slice().iter().find_map(enabled), Some(true))
+}
+
+/// The command mode that negotiation by a plan opens (QMP specification, "Capabilities
+/// Negotiation").
+pub(crate) fn mode(plan: &Option<Plan>) -> Mode
+    ensures { result ≡ mode_by plan.now }
+{
+    match plan {
+        Some(plan) if enables_out_of_band(plan) => Mode::CommandOob,
+        _ => Mode::Command,
     }
 }

@@ -1,55 +1,56 @@
 use crate::outbox::Outbox;
-use crate::requests::Waiting;
+use crate::requests::Request;
+use crate::waiting::WaitingList;
 use qm_base::{NoMemory, Shared, Text};
 use qm_caps::Mode;
 use std::alloc::Global;
 
-/// What a monitor keeps of a session, also before it is opened.
+/// What a monitor keeps of a session that was opened.
 #[derive(Drop)]
 pub(crate) struct Session {
-    pub(crate) opened: bool,
     pub(crate) dropped: bool,
     pub(crate) ended: bool,
     pub(crate) admitted: u64,
     pub(crate) mode: Mode,
-    /// The request that was admitted and not started; a session has one at most.
-    pub(crate) waiting: Option<Waiting>,
+    pub(crate) waiting: WaitingList,
+    /// The request that is open out of band.
+    pub(crate) open_out_of_band: Option<Request>,
+    /// The number of the entry that last started a request of it.
+    pub(crate) last_start: Option<u64>,
     pub(crate) outbox: Outbox,
     /// Whether a line did not fit into the outbox. From then on the session gets no line.
     pub(crate) overrun: bool,
 }
 
 impl Session {
-    ghost use Rattle.std.specs.Prelude.{◌≡◌, ◌&&◌, not, OnOk, OnErr};
-    ghost use Rattle.qm_core.specs.Kept.{answered, sent, unopened};
+    ghost use Rattle.std.specs.Prelude.{◌≡◌, IfOk, OnOk, OnErr};
+    ghost use Rattle.qm_queue.specs.declared.ring.TheConstants.{PLACES};
+    ghost use Rattle.qm_core.specs.Kept.{kept_of};
+    ghost use Rattle.qm_core.specs.Sessions.{fresh, sent, told};
 
-    /// A session that was not opened. It takes no memory.
-    pub(crate) fn unopened(alloc: Global) -> Session
-        ensures { result ≡ unopened }
+    /// A session that has done nothing.
+    pub(crate) fn new(alloc: Global) -> Result<Session, NoMemory>
+        ensures kept { IfOk result (λ session. kept_of session ≡ fresh) }
+        ensures places { IfOk result (λ session. session.waiting.places ≡ PLACES) }
     {
-        Session {
-            opened: false,
+        Ok(Session {
             dropped: false,
             ended: false,
             admitted: 0,
             mode: Mode::Negotiating,
-            waiting: None,
+            waiting: WaitingList::new(alloc)?,
+            open_out_of_band: None,
+            last_start: None,
             outbox: Outbox::new(alloc),
             overrun: false,
-        }
-    }
-
-    /// Whether it was opened, and not dropped since.
-    pub(crate) fn is_open(&self) -> bool
-        ensures { result ≡ (self.now.opened && not self.now.dropped) }
-    {
-        self.opened && !self.dropped
+        })
     }
 
     /// Puts a line into the outbox, where no line overran and this one fits. An error leaves the
     /// session as it was.
     pub(crate) fn send(&mut self, line: Shared<Text>) -> Result<(), NoMemory>
-        ensures ok { OnOk result (self.new ≡ sent self.old line) }
+        ensures ok { OnOk result (kept_of self.new ≡ sent (kept_of self.old) line) }
+        ensures places { self.new.waiting ≡ self.old.waiting }
         ensures err { OnErr result (self.new ≡ self.old) }
     {
         if self.overrun {
@@ -62,22 +63,15 @@ impl Session {
         self.outbox.put(line)
     }
 
-    /// Sends a reply's line while the session is open, and opens the command mode
-    /// where the reply does so. An error leaves it as it was.
-    pub(crate) fn answer(
-        &mut self,
-        line: Shared<Text>,
-        opens_commands: bool,
-    ) -> Result<(), NoMemory>
-        ensures ok { OnOk result (self.new ≡ answered self.old line opens_commands) }
+    /// The same while the session is open.
+    pub(crate) fn tell(&mut self, line: Shared<Text>) -> Result<(), NoMemory>
+        ensures ok { OnOk result (kept_of self.new ≡ told (kept_of self.old) line) }
+        ensures places { self.new.waiting ≡ self.old.waiting }
         ensures err { OnErr result (self.new ≡ self.old) }
     {
-        if self.is_open() {
-            self.send(line)?;
+        if self.dropped {
+            return Ok(());
         }
-        if opens_commands {
-            self.mode = Mode::Command;
-        }
-        Ok(())
+        self.send(line)
     }
 }

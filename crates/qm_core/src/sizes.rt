@@ -6,7 +6,7 @@ ghost use Rattle.std.specs.Fmt.{decimal};
 ghost use Rattle.qm_json.specs.Printing.{capped};
 ghost use Rattle.qm_core.specs.Texts.{bad_word_of, entry_text_of, entry_body_of, input_text_of, json_word_of, request_text_of, taken_text_of};
 ghost use Rattle.qm_core.specs.declared.TheConstants.{DROP_BYTES};
-ghost use Rattle.qm_core.specs.declared.entries.Entry.TheVariants.{Open, Admit, Start, Done, Take, Eof, Drop};
+ghost use Rattle.qm_core.specs.declared.entries.Entry.TheVariants.{Open, Admit, Start, Done, OobDone, Take, Eof, Drop};
 
 use crate::entries::Cause;
 use crate::inputs::{BadInput, Input, JsonWord};
@@ -84,6 +84,13 @@ pub(crate) fn done_size(at: u64, session: u32, number: u64, reply: &Json, moment
 {
     let before = number_size(at) + request_size(session, number) + number_size(moment);
     reply.written_length().saturating_add(before + 10)
+}
+
+pub(crate) fn oob_done_size(at: u64, session: u32, number: u64, reply: &Json, moment: u64) -> u64
+    ensures { result ≡ capped (length (entry_text_of at (OobDone session number None reply.now moment))) }
+{
+    let before = number_size(at) + request_size(session, number) + number_size(moment);
+    reply.written_length().saturating_add(before + 14)
 }
 
 #[tactic(auto, using(crate::proofs::Texts::take_length))]

@@ -33,6 +33,8 @@ pub enum Refusal<'a> {
     NegotiationComplete,
     /// There is no such command.
     UnknownCommand(&'a [u8]),
+    /// The command may not be run out of band.
+    NotOutOfBand(&'a [u8]),
     /// The arguments do not fit what the command takes: their first fault, and the way to it.
     Misfit(Fault, PathList),
 }

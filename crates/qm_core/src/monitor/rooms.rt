@@ -2,20 +2,21 @@
 
 ghost use Rattle.std.specs.Prelude.{◌≡◌, ◌+◌, ◌≤◌, ◌∷◌, length, IfOk};
 ghost use Rattle.std.specs.Result.{result_err};
-ghost use Rattle.qm_caps.specs.declared.mode.Lane.TheVariants.{InBand};
 ghost use Rattle.qm_core.specs.Kept.{HasPlace, Placed, has_place};
 ghost use Rattle.qm_core.specs.Legal.{past_of};
 ghost use Rattle.qm_core.specs.Next.{full_unless};
 ghost use Rattle.qm_core.specs.Standing.{open_count_of};
-ghost use Rattle.qm_core.specs.Transcript.{untaken_of};
-ghost use Rattle.qm_core.specs.declared.TheConstants.{MOST_TEXT};
-ghost use Rattle.qm_core.specs.declared.entries.Entry.TheVariants.{Open, Admit, Start, Done, Take, Eof};
+ghost use Rattle.qm_core.specs.declared.TheConstants.{MOST_SESSIONS, MOST_TEXT};
+ghost use Rattle.qm_core.specs.declared.entries.Entry.TheVariants.{Open, Admit, Start, Done, OobDone, Take, Eof};
 
 use crate::DROP_BYTES;
 use crate::entries::StepFault;
 use crate::inputs::Input;
 use crate::monitor::Monitor;
-use crate::sizes::{admit_size, done_size, eof_size, open_size, start_size, take_size};
+use crate::outbox::Outbox;
+use crate::sizes::{
+    admit_size, done_size, eof_size, oob_done_size, open_size, start_size, take_size,
+};
 use qm_caps::Lane;
 use qm_json::Json;
 use qm_plan::Plan;
@@ -27,9 +28,16 @@ impl Monitor {
         self.journal.len() + 1
     }
 
+    fn open_count(&self) -> u64
+        ensures exact { result ≡ open_count_of (past_of self.now.journal) }
+        ensures few { result ≤ MOST_SESSIONS }
+    {
+        self.open_count
+    }
+
     /// The bytes of an entry for which there is room, so many sessions being open after it.
     fn room(&self, bytes: u64, opened: u64) -> Result<u64, StepFault>
-        requires { opened ≤ 1 }
+        requires { opened ≤ MOST_SESSIONS }
         ensures fault { result_err result ≡ full_unless (has_place self.now bytes opened) }
         ensures value { IfOk result (λ size. size ≡ bytes) }
         ensures room { IfOk result (λ size. HasPlace self.now size opened) }
@@ -45,25 +53,28 @@ impl Monitor {
         Ok(bytes)
     }
 
-    pub(super) fn open_room(&self) -> Result<u64, StepFault>
-        requires { open_count_of (Open 1 ∷ past_of self.now.journal) ≡ 1 }
-        ensures { Placed self.now (Open 1) result }
+    pub(super) fn open_room(&self, session: u32) -> Result<u64, StepFault>
+        requires count { open_count_of (Open session ∷ past_of self.now.journal)
+            ≡ open_count_of (past_of self.now.journal) + 1 }
+        requires few { open_count_of (past_of self.now.journal) + 1 ≤ MOST_SESSIONS }
+        ensures { Placed self.now (Open session) result }
     {
         let at = self.next_number();
-        self.room(open_size(at, 1), 1)
+        self.room(open_size(at, session), self.open_count() + 1)
     }
 
     pub(super) fn admit_room(
         &self,
         session: u32,
         number: u64,
+        lane: Lane,
         input: &Input,
     ) -> Result<u64, StepFault>
-        ensures { Placed self.now (Admit session number InBand input.now) result }
+        ensures { Placed self.now (Admit session number lane input.now) result }
     {
         let at = self.next_number();
         self.room(
-            admit_size(at, session, number, Lane::InBand, input),
+            admit_size(at, session, number, lane, input),
             self.open_count(),
         )
     }
@@ -93,14 +104,29 @@ impl Monitor {
         )
     }
 
-    pub(super) fn take_room(&self, session: u32) -> Result<u64, StepFault>
-        ensures { Placed self.now (Take session (untaken_of 1 (past_of self.now.journal))) result }
+    pub(super) fn oob_room(
+        &self,
+        session: u32,
+        number: u64,
+        plan: &Option<Plan>,
+        reply: &Json,
+        moment: u64,
+    ) -> Result<u64, StepFault>
+        ensures { Placed self.now (OobDone session number plan.now reply.now moment) result }
     {
+        let _ = plan;
         let at = self.next_number();
         self.room(
-            take_size(at, session, &self.session.outbox),
+            oob_done_size(at, session, number, reply, moment),
             self.open_count(),
         )
+    }
+
+    pub(super) fn take_room(&self, session: u32, outbox: &Outbox) -> Result<u64, StepFault>
+        ensures { Placed self.now (Take session outbox.now) result }
+    {
+        let at = self.next_number();
+        self.room(take_size(at, session, outbox), self.open_count())
     }
 
     pub(super) fn end_room(&self, session: u32) -> Result<u64, StepFault>

@@ -1,0 +1,205 @@
+ghost use Rattle.std.specs.Prelude.{◌≡◌, ◌≢◌, ◌<◌, length, codes, if◌then◌else◌, Some, None, Err, IfSome, IfOk, OnOk};
+ghost use Rattle.std.specs.Result.{result_err};
+ghost use Rattle.qm_json.specs.Printing.{printed};
+ghost use Rattle.qm_core.specs.Legal.{past_of};
+ghost use Rattle.qm_core.specs.Next.{Next, Finish, FinishOob, is_running};
+ghost use Rattle.qm_plan.specs.Stores.{committed};
+ghost use Rattle.qm_core.specs.Planned.{command_for, planned_for, planned_of, mode_by};
+ghost use Rattle.qm_core.specs.Replies.{reply_to};
+ghost use Rattle.qm_core.specs.State.{stored};
+ghost use Rattle.qm_core.specs.Standing.{answers, running_of, open_out_of_band_of};
+
+use crate::entries::{Entry, StepFault};
+use crate::lines::line;
+use crate::monitor::Monitor;
+use crate::plans::command;
+use crate::replies::{self, Reply};
+use crate::requests::Request;
+use crate::world::Setting;
+use qm_base::{NoMemory, Shared, Text};
+use qm_json::Json;
+use qm_plan::{Plan, Store, StoreChangeList};
+use std::alloc::Global;
+
+/// A reply to a request, and what it brings about.
+#[derive(Drop)]
+struct Answer {
+    reply: Json,
+    line: Shared<Text>,
+    changes: StoreChangeList,
+    /// Whether it opens a command mode, where none is open.
+    negotiates: bool,
+    /// Whether it stops the monitor.
+    stops: bool,
+}
+
+fn answer_to(
+    alloc: Global,
+    world: &Setting,
+    store: &Store,
+    request: &Request,
+    command: Option<u32>,
+    plan: &Option<Plan>,
+) -> Result<Answer, NoMemory>
+    requires command { command ≡ command_for world.now request.now }
+    requires known { IfSome command (λ c. c < length world.now.schema.commands) }
+    requires planned { plan.now ≡ planned_for world.now request.now }
+    ensures reply { IfOk result (λ answer. answer.reply ≡ reply_to world.now store.now request.now) }
+    ensures line { IfOk result (λ answer. answer.line ≡ printed (reply_to world.now store.now request.now)) }
+    ensures mode { IfOk result (λ answer. answer.negotiates
+        ≡ answers (codes "qmp_capabilities") (Some request.now) (reply_to world.now store.now request.now)) }
+    ensures stop { IfOk result (λ answer. answer.stops
+        ≡ answers (codes "quit") (Some request.now) (reply_to world.now store.now request.now)) }
+    ensures store { IfOk result (λ answer. committed answer.changes store.now
+        ≡ stored world.now store.now plan.now (reply_to world.now store.now request.now)) }
+{
+    let Reply { value, changes } = replies::replied(alloc, world, store, request, command, plan)?;
+    let line = line(alloc, &value)?;
+    let returns = replies::is_return(&value);
+    Ok(Answer {
+        reply: value,
+        line,
+        changes,
+        negotiates: replies::calls(request, b"qmp_capabilities") && returns,
+        stops: replies::calls(request, b"quit") && returns,
+    })
+}
+
+impl Monitor {
+    ghost use Rattle.qm_core.specs.declared.entries.StepFault.{StepFault};
+
+    fn may_finish(&self, session: u32, number: u64) -> Result<&Request, StepFault>
+        ensures fault { result_err result ≡ (if is_running session number (past_of self.now.journal)
+            then None else Some StepFault.NotRunning) }
+        ensures runs { IfOk result (λ request. running_of (past_of self.now.journal) ≡ Some request.now) }
+        ensures named { IfOk result (λ request.
+            (request.now.session ≡ session) × (request.now.number ≡ number)) }
+    {
+        let Some(request) = &self.running else {
+            return Err(StepFault::NotRunning);
+        };
+        if request.session != session || request.number != number {
+            return Err(StepFault::NotRunning);
+        }
+        Ok(request)
+    }
+
+    /// Answers the running request at a moment by its plan, and puts the reply into the outbox of
+    /// its session while that is open; where the reply is no error, the store is what the plan
+    /// leaves. The entry's moment is not before any other of the journal.
+    ///
+    /// `NotRunning`: this request is not the running one. `JournalFull`. `Memory`. A refusal leaves
+    /// the monitor as it was.
+    pub fn finish(
+        &mut self,
+        alloc: Global,
+        session: u32,
+        number: u64,
+        plan: Option<Plan>,
+        moment: u64,
+    ) -> Result<(), StepFault>
+        requires planned { plan ≡ planned_of self.old.world (running_of (past_of self.old.journal)) }
+        ensures next { result ≢ Err StepFault.Memory →
+            Next self.old (Finish session number moment) (result_err result) self.new }
+        ensures memory { result ≡ Err StepFault.Memory → self.new ≡ self.old }
+    {
+        let request = self.may_finish(session, number)?;
+        let Answer {
+            reply,
+            line,
+            changes,
+            negotiates,
+            stops,
+        } = answer_to(
+            alloc, &self.world, &self.store, request, self.command, &plan,
+        )?;
+        let moment = moment.max(self.last_moment);
+        let bytes = self.finish_room(session, number, &plan, &reply, moment)?;
+        let state = &mut self.sessions[session as usize - 1];
+        state.tell(line)?;
+        if negotiates && state.mode.is_negotiating() {
+            state.mode = replies::mode(&plan);
+        }
+        self.stopped = self.stopped || stops;
+        self.store.commit(changes);
+        self.running = None;
+        self.command = None;
+        self.last_moment = moment;
+        self.journal.put(
+            Entry::Done {
+                session,
+                number,
+                plan,
+                reply,
+                moment,
+            },
+            bytes,
+        );
+        Ok(())
+    }
+
+    fn may_finish_out_of_band(&self, session: u32, number: u64) -> Result<&Request, StepFault>
+        ensures opens { IfOk result (λ request.
+            open_out_of_band_of session (past_of self.now.journal) ≡ Some request.now) }
+        ensures named { IfOk result (λ request.
+            (request.now.session ≡ session) × (request.now.number ≡ number)) }
+    {
+        let state = self.open_session(session)?;
+        let Some(request) = &state.open_out_of_band else {
+            return Err(StepFault::NotOpen);
+        };
+        if request.number != number {
+            return Err(StepFault::NotOpen);
+        }
+        Ok(request)
+    }
+
+    /// Answers the request of a session that is open out of band, as `finish` does the running one.
+    /// It is allowed after a command has stopped the monitor.
+    ///
+    /// `NoSession`: the session was never opened. `Closed`: it was dropped. `NotOpen`: this request
+    /// is not the one that is open. `JournalFull`. `Memory`. A refusal leaves the monitor as it was.
+    pub fn oob_finish(
+        &mut self,
+        alloc: Global,
+        session: u32,
+        number: u64,
+        plan: Option<Plan>,
+        moment: u64,
+    ) -> Result<(), StepFault>
+        requires planned { let request = open_out_of_band_of session (past_of self.old.journal) in
+            plan ≡ planned_of self.old.world request }
+        ensures next { result ≢ Err StepFault.Memory →
+            Next self.old (FinishOob session number moment) (result_err result) self.new }
+        ensures memory { result ≡ Err StepFault.Memory → self.new ≡ self.old }
+    {
+        let request = self.may_finish_out_of_band(session, number)?;
+        let command = command(self.world.world(), request);
+        let Answer {
+            reply,
+            line,
+            changes,
+            ..
+        } = answer_to(
+            alloc, &self.world, &self.store, request, command, &plan,
+        )?;
+        let moment = moment.max(self.last_moment);
+        let bytes = self.oob_room(session, number, &plan, &reply, moment)?;
+        let state = &mut self.sessions[session as usize - 1];
+        state.send(line)?;
+        state.open_out_of_band = None;
+        self.store.commit(changes);
+        self.last_moment = moment;
+        self.journal.put(
+            Entry::OobDone {
+                session,
+                number,
+                plan,
+                reply,
+                moment,
+            },
+            bytes,
+        );
+        Ok(())
+    }
+}
