@@ -3,12 +3,13 @@ use Rattle.std.proofs.Common.{◌≡◌, ◌≢◌, ℕ, ◌+◌, ◌<◌, ◌�
 use Rattle.std.specs.List.{list_any, count_by}
 use Rattle.std.proofs.lemmas.Bool.{cases_eq}
 use Rattle.std.proofs.lemmas.List.Folds.{list_any-append}
+use Rattle.std.proofs.lemmas.List.Sums.{count_by-le-length}
 use Rattle.qm_core.specs.declared.entries.{Cause.Cause, Entry.Entry, Entry.TheVariants.Open, Entry.TheVariants.Drop}
-use Rattle.qm_core.specs.{Legal.AllFollow, Sessions.Kept}
+use Rattle.qm_core.specs.{Legal.AllFollow, Sessions.Kept, declared.TheConstants.MOST_SESSIONS}
 use Rattle.qm_core.specs.Standing.{sessions_of, was_opened, is_dropped, is_open, open_count_of}
 use Rattle.qm_core.proofs.Counting.{unit, count-cons, count-push}
 use Rattle.qm_core.proofs.Numbers.{numbers_from}
-use Rattle.qm_core.proofs.Pasts.{differ, same, open_opened, sessions-are, opened-within, within-opened, past-not-opened}
+use Rattle.qm_core.proofs.Pasts.{differ, same, open_opened, sessions-are, opened-within, within-opened, past-not-opened, few-sessions}
 use Rattle.qm_core.proofs.Records.{untouched}
 
 count-same : (p q : ℕ → Bool) (a n : ℕ) → ((t : ℕ) → a ≤ t → t < a + n → p t ≡ q t) → count_by p (numbers_from a n) ≡ count_by q (numbers_from a n)
@@ -69,3 +70,6 @@ counts-drop past s cause legal opened =
 
       other : (t : ℕ) → t ≢ s → is_open t (Drop s cause ∷ past) ≡ is_open t past
       other t ne = rw (differ s t (λ e. ne (sym e))) refl
+
+pub few-open : (past : List Entry) → AllFollow past → open_count_of past ≤ MOST_SESSIONS
+few-open past legal = omega (arith, count_by-le-length (λ s. is_open s past) (sessions_of past), few-sessions past legal)

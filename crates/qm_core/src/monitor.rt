@@ -1,11 +1,11 @@
-ghost use Rattle.std.specs.Prelude.{◌≡◌, ◌≤◌, ◌<◌, [], length, true, IfOk, IfSome, OnOk};
+ghost use Rattle.std.specs.Prelude.{◌≡◌, ◌≤◌, ◌<◌, [], length, false, true, IfOk, IfSome, OnOk};
 ghost use Rattle.std.specs.Result.{result_err};
 ghost use Rattle.qm_core.specs.Legal.{HasRoom, IsLegal, past_of};
 ghost use Rattle.qm_core.specs.Next.{closed_refusal};
 ghost use Rattle.qm_core.specs.Planned.{planned_of};
 ghost use Rattle.qm_core.specs.State.{store_of};
 ghost use Rattle.qm_core.specs.Worlds.{IsReady};
-ghost use Rattle.qm_core.specs.Sessions.{session_at};
+ghost use Rattle.qm_core.specs.Sessions.{fresh, session_at};
 ghost use Rattle.qm_core.specs.Standing.{sessions_of, was_opened, admitted_of, is_dropped, is_stopped, in_flight_of, running_of, open_out_of_band_of, named_of};
 ghost use Rattle.qm_core.specs.Transcript.{has_overrun};
 
@@ -95,7 +95,7 @@ impl Model for Monitor {
 }
 
 impl Monitor {
-    ghost use Rattle.qm_core.specs.declared.TheConstants.{MOST_ENTRIES, MOST_TEXT};
+    ghost use Rattle.qm_core.specs.declared.TheConstants.{MOST_ENTRIES, MOST_SESSIONS, MOST_TEXT};
     ghost use Rattle.qm_core.specs.Kept.{IsOpen, kept_of};
 
     /// A monitor of a world with an empty journal, which has its places.
@@ -162,10 +162,19 @@ impl Monitor {
         }
     }
 
+    /// How many sessions were opened.
+    fn opened(&self) -> u32
+        ensures exact { result ≡ length (sessions_of (past_of self.now.journal)) }
+        ensures few { result ≤ MOST_SESSIONS }
+    {
+        self.sessions.len() as u32
+    }
+
     /// Whether the session was opened.
     pub fn is_known(&self, session: u32) -> bool
         ensures known { result ≡ was_opened session (past_of self.now.journal) }
         ensures counted { result ≡ true → (0 < session) × (session ≤ length (sessions_of (past_of self.now.journal))) }
+        ensures untouched { result ≡ false → session_at (past_of self.now.journal) session ≡ fresh }
     {
         session > 0 && session as usize <= self.sessions.len()
     }

@@ -5,7 +5,7 @@ ghost use Rattle.std.specs.Result.{result_err};
 ghost use Rattle.qm_core.specs.Kept.{HasPlace, Placed, has_place};
 ghost use Rattle.qm_core.specs.Legal.{past_of};
 ghost use Rattle.qm_core.specs.Next.{full_unless};
-ghost use Rattle.qm_core.specs.Standing.{open_count_of};
+ghost use Rattle.qm_core.specs.Standing.{open_count_of, sessions_of};
 ghost use Rattle.qm_core.specs.declared.TheConstants.{MOST_SESSIONS, MOST_TEXT};
 ghost use Rattle.qm_core.specs.declared.entries.Entry.TheVariants.{Open, Admit, Start, Done, OobDone, Take, Eof};
 
@@ -54,13 +54,12 @@ impl Monitor {
     }
 
     pub(super) fn open_room(&self, session: u32) -> Result<u64, StepFault>
-        requires count { open_count_of (Open session ∷ past_of self.now.journal)
-            ≡ open_count_of (past_of self.now.journal) + 1 }
-        requires few { open_count_of (past_of self.now.journal) + 1 ≤ MOST_SESSIONS }
+        requires next { session ≡ length (sessions_of (past_of self.now.journal)) + 1 }
+        requires few { session ≤ MOST_SESSIONS }
         ensures { Placed self.now (Open session) result }
     {
         let at = self.next_number();
-        self.room(open_size(at, session), self.open_count() + 1)
+        self.room(open_size(at, session), self.open_count + 1)
     }
 
     pub(super) fn admit_room(

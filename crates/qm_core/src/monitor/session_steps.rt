@@ -75,10 +75,11 @@ impl Monitor {
         if self.stopped {
             return Err(StepFault::Stopping);
         }
-        if self.sessions.len() >= MOST_SESSIONS as usize {
+        let opened = self.opened();
+        if opened >= MOST_SESSIONS {
             return Err(StepFault::SessionsFull);
         }
-        let session = self.sessions.len() as u32 + 1;
+        let session = opened + 1;
         let bytes = self.open_room(session)?;
         Ok(Opening { session, bytes })
     }

@@ -1,4 +1,3 @@
-use Rattle.qm_caps.specs.declared.mode.Lane.TheVariants.{InBand}
 use Rattle.qm_core.specs.declared.entries.Entry.TheVariants.{Admit}
 use Rattle.qm_core.proofs.Rooms.{placed}
 use Rattle.qm_core.proofs.monitor.Monitor.admit_room.Goals as goal
@@ -6,4 +5,4 @@ use Rattle.qm_core.proofs.monitor.Monitor.admit_room.Goals as goal
 pub returns : goal.returns
 returns c =
     let found = c.room.ensures in
-    placed c.args.self.now (Admit c.args.session c.args.number InBand c.args.input.now) _ _ _ _ found.short c.next_number-at.ensures c.admit_size.ensures c.open_count.ensures.exact found.fault found.value found.room
+    placed c.args.self.now (Admit c.args.session c.args.number c.args.lane c.args.input.now) _ _ _ _ found.short c.next_number-at.ensures c.admit_size.ensures c.open_count.ensures.exact found.fault found.value found.room

@@ -14,15 +14,15 @@ invariant_of-self c =
     let past = past_of c.self.inside.journal.items in
     let ok = rw (← c.self.view_is) at c.in_ok-bytes.ensures in
     let s = c.args.session in
-    let state : kept_of c.index_mut-state.result.now ≡ session_at past s = ap kept_of c.index_mut-state.ensures.value ∙ kept-at past s c.self.inside.sessions.items _ sound.legal.ordered sound.sessions ok.«open» in
+    let state : kept_of c.index_mut-state.result.now ≡ session_at past s = ap kept_of c.index_mut-state.ensures.value ∙ kept-at past s c.self.inside.sessions.items _ sound.legal.ordered sound.sessions ok.«open».known in
     let new : Session = record c.index_mut-state.result.now { ended = true } in
     let here : kept_of new ≡ session_at (Eof s ∷ past) s = ap (λ (k : Kept). record k { ended = true }) state ∙ sym (eof-here s past) in
-    let places = ap has_places c.index_mut-state.ensures.value ∙ places-at past s c.self.inside.sessions.items _ sound.sessions ok.«open» in
+    let places = ap has_places c.index_mut-state.ensures.value ∙ places-at past s c.self.inside.sessions.items _ sound.legal.ordered sound.sessions ok.«open».known in
     after_entry c.self.inside _ (Eof s) _ sound (search rules) tt ok.placed record {
       world = refl;
       limits = refl;
       journal = c.put.ensures;
-      sessions = sessions-changed past (Eof s) s c.self.inside.sessions.items new sound.legal.ordered sound.sessions ok.«open» refl here places (λ t. eof-other s t past);
+      sessions = sessions-changed past (Eof s) s c.self.inside.sessions.items new sound.legal.ordered sound.sessions ok.«open».known refl here places (λ t. eof-other s t past);
       turns = sound.turns;
       open_count = sound.open_count;
       running = record { request = sound.running.request; command = sound.running.command; known = sound.running.known };

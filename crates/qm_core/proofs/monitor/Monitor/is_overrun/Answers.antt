@@ -1,9 +1,6 @@
-use Rattle.std.proofs.Common.{◌≡◌, ◌==◌, false, sym, arith}
-use Rattle.std.proofs.lemmas.Bool.Decides.{nat_tests}
-use Rattle.qm_core.proofs.KeptSessions.{other_not_overrun}
+use Rattle.std.proofs.Common.{◌∙◌, ap, sym}
+use Rattle.qm_core.specs.Sessions.{Kept}
 use Rattle.qm_core.proofs.monitor.Monitor.is_overrun.Goals as goal
 
-pub returns-else-session-eq1 : goal.returns-else-session-eq1
-returns-else-session-eq1 c =
-    let other : (c.args.session == 1) ≡ false = grind (arith, nat_tests) in
-    rw (← c.self.view_is, other) (sym (other_not_overrun c.args.session _ c.self.inside.session (omega arith) c.self.invariant.session))
+pub returns-else-is_known : goal.returns-else-is_known
+returns-else-is_known c = c.if-is_known.false ∙ sym (ap (λ (k : Kept). k.overrun) (c.is_known.ensures.untouched c.if-is_known.false))

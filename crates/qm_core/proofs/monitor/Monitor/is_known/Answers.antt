@@ -1,0 +1,30 @@
+use Rattle.std.proofs.Common.{◌≡◌, ◌∙◌, false, nat_le, nat_lt, ◌&&◌, sym, arith}
+use Rattle.std.proofs.lemmas.Bool.Decides.{nat_tests}
+use Rattle.qm_core.specs.Legal.{past_of}
+use Rattle.qm_core.specs.Standing.{was_opened}
+use Rattle.qm_core.proofs.Keeping.{sessions-count}
+use Rattle.qm_core.proofs.Pasts.{opened-is}
+use Rattle.qm_core.proofs.Records.{untouched}
+use Rattle.qm_core.proofs.monitor.Monitor.is_known.Goals as goal
+
+pub returns-then-session-gt0-clause-known : goal.returns-then-session-gt0-clause-known
+returns-then-session-gt0-clause-known c =
+    let sound = c.self.invariant in
+    let count = sessions-count _ c.self.inside.sessions.items sound.sessions in
+    let known = opened-is c.args.session _ sound.legal.ordered in
+    rw (← c.self.view_is) (grind (arith, nat_tests, count, known, c.len.ensures, c.if-session-gt0))
+
+pub returns-then-session-gt0-clause-untouched : goal.returns-then-session-gt0-clause-untouched
+returns-then-session-gt0-clause-untouched c none =
+    let known = returns-then-session-gt0-clause-known c in
+    rw (← c.self.view_is) (untouched _ c.args.session c.self.invariant.legal.ordered (rw (← c.self.view_is) at (sym known ∙ none)))
+
+pub returns-else-session-gt0-clause-known : goal.returns-else-session-gt0-clause-known
+returns-else-session-gt0-clause-known c =
+    let known = opened-is c.args.session _ c.self.invariant.legal.ordered in
+    rw (← c.self.view_is) (grind (arith, nat_tests, known, c.if-session-gt0))
+
+pub returns-else-session-gt0-clause-untouched : goal.returns-else-session-gt0-clause-untouched
+returns-else-session-gt0-clause-untouched c none =
+    let known = returns-else-session-gt0-clause-known c in
+    rw (← c.self.view_is) (untouched _ c.args.session c.self.invariant.legal.ordered (rw (← c.self.view_is) at (sym known ∙ none)))
