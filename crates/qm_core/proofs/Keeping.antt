@@ -1,16 +1,24 @@
 -- What the fields of a monitor keep, after one more entry.
-use Rattle.std.proofs.Common.{◌≡◌, ◌≢◌, ℕ, ◌+◌, ◌-◌, ◌<◌, ◌≤◌, suc, zero, Bool, true, Option, List, [], ◌∷◌, ◌++◌, length, map, get_or, refl, ap, sym, ◌∙◌, arith}
-use Rattle.std.specs.List.{list_all}
+use Rattle.std.proofs.Common.{◌≡◌, ◌≢◌, ℕ, ◌+◌, ◌-◌, ◌<◌, ◌≤◌, suc, zero, Bool, true, false, ◌||◌, cond, Option, Some, None, is_some, max, ◌^◌, List, [], ◌∷◌, ◌++◌, length, map, get_or, refl, ap, sym, subst, ◌==◌, ◌∙◌, arith}
+use Rattle.std.specs.{List.list_all, Option.option_or}
 use Rattle.std.proofs.lemmas.List.{length-append, length-map, map-set, map_push, get_or-map}
 use Rattle.std.proofs.lemmas.List.Folds.{list_all-append}
 use Rattle.std.proofs.lemmas.List.Recursion.{and_set}
 use Rattle.std.proofs.Math.ListN.{set}
-use Rattle.qm_core.specs.declared.{entries.Entry.Entry, entries.Entry.TheVariants.Open, monitor.Monitor.TheInside.Inside as Fields, sessions.Session.Session}
-use Rattle.qm_core.specs.{Answers.IsAnswer, Legal.AllFollow, Legal.past_of, Order.MayFollow, State.store_of}
-use Rattle.qm_core.specs.Kept.{AreSessions, IsPlaced, IsRunning, IsSound, has_places, kept_of, view_of}
-use Rattle.qm_core.specs.Sessions.{Kept, session_at, turn_at}
-use Rattle.qm_core.specs.Standing.{sessions_of, was_opened, is_stopped, open_count_of, last_moment_of}
-use Rattle.qm_core.proofs.{Journals.legal-append, Journals.past_of-append, Lists.list-at, Lists.list-changed, Lists.list-more, Pasts.both, Pasts.opened-within, Records.Stays, Records.open-other, Texts.text_more}
+use Rattle.qm_base.specs.Reserving.{Reserved}
+use Rattle.qm_caps.specs.Lanes.{is_in_band}
+use Rattle.qm_caps.specs.{Modes.bound_of, declared.mode.Mode.Mode, declared.mode.Mode.TheVariants.Negotiating, declared.mode.Mode.TheVariants.Command, declared.mode.Mode.TheVariants.CommandOob}
+use Rattle.qm_caps.specs.declared.mode.Lane.{Lane, TheVariants.InBand, TheVariants.Oob}
+use Rattle.qm_queue.specs.{Turns.IsOpened}
+use Rattle.qm_queue.specs.declared.{ring.TheConstants.PLACES, turns.TurnItem.TurnItem}
+use Rattle.qm_core.specs.declared.{TheConstants.DROP_BYTES, entries.Cause.Cause, entries.StepFault.StepFault, entries.Entry.Entry, entries.Entry.TheVariants.Admit, entries.Entry.TheVariants.Open, entries.Entry.TheVariants.Drop, inputs.Input.Input, monitor.Monitor.TheInside.Inside as Fields, requests.Request.Request, sessions.Session.Session}
+use Rattle.qm_core.specs.{Answers.IsAnswer, Legal.AllFollow, Legal.past_of, Order.MayCome, Order.MayFollow, State.store_of}
+use Rattle.qm_core.specs.Kept.{AreSessions, IsOpen, IsPlaced, IsRunning, IsSound, has_places, kept_of, refusal_in, view_of}
+use Rattle.qm_core.specs.Next.{Next, Step, View, entry_of}
+use Rattle.qm_core.specs.Sessions.{Kept, sent, session_at, told, turn_at}
+use Rattle.qm_core.specs.Texts.{entry_text_of}
+use Rattle.qm_core.specs.Standing.{sessions_of, was_opened, is_open, is_stopped, in_flight_of, mode_of, turn_item, waiting_of, open_count_of, last_moment_of}
+use Rattle.qm_core.proofs.{Counts.counts-drop, Journals.legal-append, Journals.past_of-append, Lists.list-at, Lists.list-changed, Lists.list-more, Pasts.both, Pasts.equal, Pasts.open_opened, Pasts.opened-within, Records.Stays, Records.open-other, Texts.text_more, Turns.admit-turn, Turns.admit-turn-other, Turns.oob-turn}
 
 -- the fields after an entry are what stands after it
 pub record Follows (m new : Fields) (e : Entry) : Type 0 where
@@ -94,3 +102,104 @@ sessions-more past s sessions new legal kept next here places = record {
       ∙ list-more (session_at past) (session_at (Open s ∷ past)) past s legal next (λ t. open-other s t past);
   places = list_all-append has_places sessions (new ∷ []) ∙ rw (kept.places, places) refl;
 }
+
+pub has-places : (session : Session) → session.waiting.places ≡ PLACES → has_places session ≡ true
+has-places session places = rw places (either session.dropped) where
+  either : (b : Bool) → (b || true) ≡ true
+  either true = refl
+  either false = refl
+
+pub places-kept : (old new : Session) → new.dropped ≡ old.dropped → new.waiting.places ≡ old.waiting.places → has_places old ≡ true → has_places new ≡ true
+places-kept old new dropped places h = rw (dropped, places) h
+
+-- a session that is not dropped has them all
+pub all-places : (session : Session) → session.dropped ≡ false → has_places session ≡ true → session.waiting.places ≡ PLACES
+all-places session stays h = equal session.waiting.places PLACES (subst (λ (b : Bool). (b || (session.waiting.places == PLACES)) ≡ true) stays h)
+
+-- each session that was opened has a place among the turns
+pub turns-opened : (past : List Entry) (turns : List (Option TurnItem)) (s : ℕ) → AllFollow past → turns ≡ map (turn_at past) (sessions_of past) → was_opened s past ≡ true → IsOpened s turns
+turns-opened past turns s legal kept known =
+    let within = opened-within s past legal known in
+    let count : length turns ≡ length (sessions_of past) = ap (λ (l : List (Option TurnItem)). length l) kept ∙ length-map (sessions_of past) (turn_at past) in
+    record { counted = within.0; opened = omega (arith, within.1, count) }
+
+-- an entry of one session changes that session's turn alone
+pub turns-changed : (past : List Entry) (e : Entry) (s : ℕ) (turns : List (Option TurnItem)) (item : Option TurnItem) → AllFollow past → turns ≡ map (turn_at past) (sessions_of past) →
+    was_opened s past ≡ true → sessions_of (e ∷ past) ≡ sessions_of past → item ≡ turn_at (e ∷ past) s → ((t : ℕ) → t ≢ s → turn_at (e ∷ past) t ≡ turn_at past t) →
+    set turns (s - 1) item ≡ map (turn_at (e ∷ past)) (sessions_of (e ∷ past))
+turns-changed past e s turns item legal kept opened known here others =
+    ap (λ (l : List (Option TurnItem)). set l (s - 1) item) kept ∙ ap (λ (i : Option TurnItem). set (map (turn_at past) (sessions_of past)) (s - 1) i) here
+    ∙ list-changed (turn_at past) (turn_at (e ∷ past)) past s legal opened others ∙ ap (λ (l : List ℕ). map (turn_at (e ∷ past)) l) (sym known)
+
+same-turns : (f g : ℕ → Option TurnItem) → ((t : ℕ) → g t ≡ f t) → (sessions : List ℕ) → map f sessions ≡ map g sessions
+same-turns f g each [] = refl
+same-turns f g each (s ∷ sessions) = ap (λ (i : Option TurnItem). i ∷ map f sessions) (sym (each s)) ∙ ap (λ (l : List (Option TurnItem)). g s ∷ l) (same-turns f g each sessions)
+
+-- the turns after an admission
+pub admit-turns : (past : List Entry) (s k : ℕ) (lane : Lane) (input : Input) (turns : List (Option TurnItem)) → AllFollow past → turns ≡ map (turn_at past) (sessions_of past) → is_open s past ≡ true →
+    cond (is_in_band lane) (set turns (s - 1) (Some (turn_item past s))) turns ≡ map (turn_at (Admit s k lane input ∷ past)) (sessions_of past)
+admit-turns past s k InBand input turns legal kept opened =
+    turns-changed past (Admit s k InBand input) s turns (Some (turn_item past s)) legal kept (open_opened s past opened) refl (sym (admit-turn s k input past opened)) (λ t. admit-turn-other s k t InBand input past)
+admit-turns past s k Oob input turns legal kept opened = kept ∙ same-turns (turn_at past) (turn_at (Admit s k Oob input ∷ past)) (λ t. oob-turn s k t input past) (sessions_of past)
+
+-- an entry that is not refused is the next
+pub next-entry : (m : Fields) (new : View) (step : Step) (e : Entry) (journal : Reserved Entry) → None ≡ refusal_in (view_of m) step → e ≡ entry_of m.world (past_of m.journal.items) step →
+    journal ≡ record m.journal { items = m.journal.items ++ e ∷ [] } → new ≡ record { world = m.world; limits = m.limits; journal = journal.items } → Next (view_of m) step None new
+next-entry m new step e journal answer is added seen = rw seen record {
+  answer = answer;
+  journal = ap (λ (r : Reserved Entry). r.items) added ∙ ap (λ (x : Entry). m.journal.items ++ x ∷ []) is;
+  limits = refl;
+  world = refl;
+}
+
+pub is-open : (past : List Entry) (s : ℕ) → IsOpen past s → is_open s past ≡ true
+is-open past s opened = rw (opened.known, opened.stays) refl
+
+-- a drop has kept its place
+pub drop-placed : (m : Fields) (s bytes : ℕ) (cause : Cause) → IsSound m → IsOpen (past_of m.journal.items) s →
+    bytes ≡ length (entry_text_of (length m.journal.items + 1) (Drop s cause)) → bytes ≤ DROP_BYTES → IsPlaced (view_of m) (Drop s cause) bytes
+drop-placed m s bytes cause sound opened size small =
+    let past = past_of m.journal.items in
+    let less = counts-drop past s cause sound.legal.ordered (is-open past s opened) in
+    record { bytes = size; room = record { entries = omega (arith, sound.room.entries, less); text = omega (arith, sound.room.text, less, small) } }
+
+few-bound : (mode : Mode) → bound_of mode ≤ PLACES
+few-bound Negotiating = omega arith
+few-bound Command = omega arith
+few-bound CommandOob = omega arith
+
+-- a request that may wait has a place
+pub few-places : (past : List Entry) (s : ℕ) (waiting : List Request) (places : ℕ) → waiting ≡ waiting_of s past → places ≡ PLACES → in_flight_of s past < bound_of (mode_of s past) → length waiting < places
+few-places past s waiting places kept all below = (let few = few-bound (mode_of s past) in let count : length waiting ≡ length (waiting_of s past) = ap (λ (l : List Request). length l) kept in omega (arith, count, all, below, few))
+
+-- a refusal that comes before that of a full journal is the refusal
+refused_before : (closed : Option StepFault) (test : Bool) (own : StepFault) (full fault : Option StepFault) → fault ≡ option_or closed (cond test None (Some own)) → is_some fault ≡ true →
+    fault ≡ option_or closed (cond test full (Some own))
+refused_before (Some closed) test own full fault told some = told
+refused_before None false own full fault told some = told
+refused_before None true own full (Some fault) told some = absurd cc
+refused_before None true own full None told some = absurd cc
+
+pub next-refused : (m : View) (step : Step) (closed : Option StepFault) (test : Bool) (own : StepFault) (full fault : Option StepFault) → refusal_in m step ≡ option_or closed (cond test full (Some own)) →
+    fault ≡ option_or closed (cond test None (Some own)) → is_some fault ≡ true → Next m step fault m
+next-refused m step closed test own full (Some fault) is told some = record {
+  answer = refused_before closed test own full (Some fault) told some ∙ sym is;
+  journal = refl;
+  limits = refl;
+  world = refl;
+}
+next-refused m step closed test own full None is told some = absurd cc
+
+-- a session that is told a line is dropped as before
+pub told-dropped : (kept : Kept) (line : List ℕ) → (told kept line).dropped ≡ kept.dropped
+told-dropped kept line = either kept.dropped where
+  either : (b : Bool) → (cond b kept (sent kept line)).dropped ≡ kept.dropped
+  either true = refl
+  either false = refl
+
+-- a moment that is no earlier than another may come
+pub may-come : (past : List Entry) (moment kept last : ℕ) → kept ≡ last_moment_of past → last ≡ max moment kept → last < 2 ^ 64 → MayCome past last
+may-come past moment kept last held greatest below = record { later = omega (arith, held, greatest); below = below }
+
+pub last-moment : (past : List Entry) (last : ℕ) → MayCome past last → last ≡ max last (last_moment_of past)
+last-moment past last may = omega (arith, may.later)

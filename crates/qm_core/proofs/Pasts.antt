@@ -289,6 +289,7 @@ pub record Begins (past : List Entry) (s k : ℕ) : Type 0 where
   pub session : request.session ≡ s
   pub number : request.number ≡ k
   pub waiting : waiting_of s past ≡ request ∷ others
+  pub starting : starting_of past ≡ Some request
   pub turn : HasTurn past s
 
 some_name : (a b : RequestName) → Some a ≡ Some b → a ≡ b
@@ -309,6 +310,7 @@ begins past s k may = by_turn (turn_of past) refl may.turn where
         session = session;
         number = ap (λ (n : RequestName). n.number) named;
         waiting = subst (λ (u : ℕ). waiting_of u past ≡ q ∷ others) of_turn w;
+        starting = ap (λ (u : Option ℕ). option_and_then (λ v. slice_get (waiting_of v past) 0) u) e ∙ ap (λ (l : List Request). slice_get l 0) w;
         turn = has-turn past s (subst (λ (u : ℕ). turn_of past ≡ Some u) of_turn e);
       }
 

@@ -4,7 +4,7 @@ use Rattle.std.specs.List.{filter, flat_map}
 use Rattle.std.proofs.lemmas.List.{length-append}
 use Rattle.std.proofs.lemmas.List.Folds.{list_any-append}
 use Rattle.qm_caps.specs.Lanes.{is_in_band}
-use Rattle.qm_caps.specs.declared.mode.Lane.{Lane, TheVariants.InBand}
+use Rattle.qm_caps.specs.declared.mode.Lane.{Lane, TheVariants.InBand, TheVariants.Oob}
 use Rattle.qm_queue.specs.{Turns.turn_of as first_turn, Turns.waiting_in, declared.turns.TurnItem.TurnItem}
 use Rattle.qm_core.specs.declared.entries.{Cause.Cause, Entry.Entry}
 use Rattle.qm_core.specs.declared.entries.Entry.TheVariants.{Open, Admit, Start, Drop}
@@ -56,6 +56,9 @@ some_more xs x = (let e = length-append xs (x ∷ []) in differ (length (xs ++ x
 
 pub admit-turn : (s k : ℕ) (input : Input) (past : List Entry) → is_open s past ≡ true → turn_at (Admit s k InBand input ∷ past) s ≡ Some (turn_item past s)
 admit-turn s k input past opened = rw (opened, same s, some_more) refl
+
+pub oob-turn : (s k t : ℕ) (input : Input) (past : List Entry) → turn_at (Admit s k Oob input ∷ past) t ≡ turn_at past t
+oob-turn s k t input past = rw (and_false (s == t)) refl
 
 pub ready-turn : (s : ℕ) (past : List Entry) → is_ready s past ≡ true → turn_at past s ≡ Some (turn_item past s)
 ready-turn s past ready = rw ready refl

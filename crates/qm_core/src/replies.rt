@@ -1,4 +1,5 @@
-ghost use Rattle.std.specs.Prelude.{◌≡◌, ◌<◌, [], ◌∷◌, ◌++◌, length, codes, false, option_map, IfOk, IfSome, Some};
+ghost use Rattle.std.specs.Prelude.{◌≡◌, ◌<◌, [], ◌∷◌, ◌++◌, length, codes, false, option_map, IfOk, IfSome, Some, slice_get};
+ghost use Rattle.std.specs.List.{filter_map};
 ghost use Rattle.std.specs.Option.{option_copied};
 ghost use Rattle.qm_json.specs.Members.{has_name};
 ghost use Rattle.qm_caps.specs.Greetings.{named};
@@ -266,10 +267,22 @@ fn enabled(act: &Act) -> Option<bool>
     }
 }
 
+/// What the first act that ends the negotiation enables.
+fn first_enabled(acts: &[Act]) -> Option<bool>
+    ensures { result ≡ slice_get (filter_map enabled_by acts.now) 0 }
+{
+    for act in acts {
+        if let Some(oob) = enabled(act) {
+            return Some(oob);
+        }
+    }
+    None
+}
+
 fn enables_out_of_band(plan: &Plan) -> bool
     ensures { result ≡ enables_out_of_band_by plan.now }
 {
-    matches!(plan.acts.as_slice().iter().find_map(enabled), Some(true))
+    matches!(first_enabled(plan.acts.as_slice()), Some(true))
 }
 
 /// The command mode that negotiation by a plan opens (QMP specification, "Capabilities

@@ -1,13 +1,16 @@
-ghost use Rattle.std.specs.Prelude.{◌≡◌, ◌≢◌, ◌<◌, length, codes, if◌then◌else◌, Some, None, Err, IfSome, IfOk, OnOk};
+ghost use Rattle.std.specs.Prelude.{◌≡◌, ◌≢◌, ◌<◌, length, codes, if◌then◌else◌, Some, None, Err, IfSome, IfOk, OnOk, OnErr, is_some, ◌&&◌};
 ghost use Rattle.std.specs.Result.{result_err};
 ghost use Rattle.qm_json.specs.Printing.{printed};
+ghost use Rattle.qm_caps.specs.Modes.{is_negotiating};
+ghost use Rattle.qm_core.specs.Kept.{kept_of};
+ghost use Rattle.qm_core.specs.Sessions.{told};
 ghost use Rattle.qm_core.specs.Legal.{past_of};
-ghost use Rattle.qm_core.specs.Next.{Next, Finish, FinishOob, is_running};
+ghost use Rattle.qm_core.specs.Next.{Next, Finish, FinishOob, is_open_out_of_band, is_running, names, session_refusal};
 ghost use Rattle.qm_plan.specs.Stores.{committed};
 ghost use Rattle.qm_core.specs.Planned.{command_for, planned_for, planned_of, mode_by};
 ghost use Rattle.qm_core.specs.Replies.{reply_to};
 ghost use Rattle.qm_core.specs.State.{stored};
-ghost use Rattle.qm_core.specs.Standing.{answers, running_of, open_out_of_band_of};
+ghost use Rattle.qm_core.specs.Standing.{answers, named_of, running_of, open_out_of_band_of};
 
 use crate::entries::{Entry, StepFault};
 use crate::lines::line;
@@ -15,6 +18,7 @@ use crate::monitor::Monitor;
 use crate::plans::command;
 use crate::replies::{self, Reply};
 use crate::requests::Request;
+use crate::sessions::Session;
 use crate::world::Setting;
 use qm_base::{NoMemory, Shared, Text};
 use qm_json::Json;
@@ -65,7 +69,41 @@ fn answer_to(
     })
 }
 
+/// Tells a session the reply to its running request, which may open a command mode. An error leaves
+/// the session as it was.
+fn answered(
+    state: &mut Session,
+    line: Shared<Text>,
+    negotiates: bool,
+    plan: &Option<Plan>,
+) -> Result<(), NoMemory>
+    ensures ok { OnOk result (kept_of state.new ≡ record (told (kept_of state.old) line) {
+        mode = if is_negotiating state.old.mode && negotiates then mode_by plan.now else state.old.mode;
+    }) }
+    ensures places { state.new.waiting ≡ state.old.waiting }
+    ensures err { OnErr result (state.new ≡ state.old) }
+{
+    state.tell(line)?;
+    if state.mode.is_negotiating() && negotiates {
+        state.mode = replies::mode(plan);
+    }
+    Ok(())
+}
+
+/// The request, if it has this session and this number.
+fn named(request: &Option<Request>, session: u32, number: u64) -> Option<&Request>
+    ensures some { is_some result ≡ names session number (named_of request.now) }
+    ensures is { IfSome result (λ found. request.now ≡ Some found.now) }
+    ensures named { IfSome result (λ found. (found.now.session ≡ session) × (found.now.number ≡ number)) }
+{
+    match request {
+        Some(request) if request.session == session && request.number == number => Some(request),
+        _ => None,
+    }
+}
+
 impl Monitor {
+    ghost use Rattle.qm_core.specs.Kept.{IsOpen};
     ghost use Rattle.qm_core.specs.declared.entries.StepFault.{StepFault};
 
     fn may_finish(&self, session: u32, number: u64) -> Result<&Request, StepFault>
@@ -75,12 +113,9 @@ impl Monitor {
         ensures named { IfOk result (λ request.
             (request.now.session ≡ session) × (request.now.number ≡ number)) }
     {
-        let Some(request) = &self.running else {
+        let Some(request) = named(&self.running, session, number) else {
             return Err(StepFault::NotRunning);
         };
-        if request.session != session || request.number != number {
-            return Err(StepFault::NotRunning);
-        }
         Ok(request)
     }
 
@@ -116,11 +151,8 @@ impl Monitor {
         let moment = moment.max(self.last_moment);
         let bytes = self.finish_room(session, number, &plan, &reply, moment)?;
         let state = &mut self.sessions[session as usize - 1];
-        state.tell(line)?;
-        if negotiates && state.mode.is_negotiating() {
-            state.mode = replies::mode(&plan);
-        }
-        self.stopped = self.stopped || stops;
+        answered(state, line, negotiates, &plan)?;
+        self.stopped = stops | self.stopped;
         self.store.commit(changes);
         self.running = None;
         self.command = None;
@@ -139,18 +171,19 @@ impl Monitor {
     }
 
     fn may_finish_out_of_band(&self, session: u32, number: u64) -> Result<&Request, StepFault>
+        ensures fault { let past = past_of self.now.journal in
+            result_err result ≡ session_refusal session past
+            (if is_open_out_of_band session number past then None else Some StepFault.NotOpen) }
+        ensures open { OnOk result (IsOpen (past_of self.now.journal) session) }
         ensures opens { IfOk result (λ request.
             open_out_of_band_of session (past_of self.now.journal) ≡ Some request.now) }
         ensures named { IfOk result (λ request.
             (request.now.session ≡ session) × (request.now.number ≡ number)) }
     {
         let state = self.open_session(session)?;
-        let Some(request) = &state.open_out_of_band else {
+        let Some(request) = named(&state.open_out_of_band, session, number) else {
             return Err(StepFault::NotOpen);
         };
-        if request.number != number {
-            return Err(StepFault::NotOpen);
-        }
         Ok(request)
     }
 

@@ -1,0 +1,51 @@
+use Rattle.std.proofs.Common.{◌≡◌, ◌∷◌, ◌∙◌, ℕ, ◌+◌, ◌-◌, [], None, true, ap, arith, refl, sym}
+use Rattle.qm_core.specs.Kept.{has_places, kept_of}
+use Rattle.qm_core.specs.Legal.{past_of}
+use Rattle.qm_core.specs.Sessions.{Kept, session_at}
+use Rattle.qm_core.specs.declared.entries.Entry.TheVariants.{Drop}
+use Rattle.qm_core.specs.declared.sessions.Session.{Session}
+use Rattle.qm_core.proofs.Counts.{counts-drop}
+use Rattle.qm_core.proofs.Keeping.{after_entry, drop-placed, is-open, kept-at, sessions-changed, turns-changed}
+use Rattle.qm_core.proofs.Records.{drop-here, drop-other}
+use Rattle.qm_core.proofs.Turns.{drop-turn, drop-turn-other}
+use Rattle.qm_core.proofs.monitor.Monitor.drop_session.Goals as goal
+
+pub overflow_sub-self : goal.overflow_sub-self
+overflow_sub-self c =
+    let sound = c.self.invariant in
+    let past = past_of c.self.inside.journal.items in
+    let ok = rw (← c.self.view_is) at c.in_ok-may_drop.ensures in
+    omega (arith, sound.open_count, counts-drop past c.args.session c.args.cause sound.legal.ordered (is-open past c.args.session ok.«open»))
+
+pub put-requires-clause-place : goal.put-requires-clause-place
+put-requires-clause-place c =
+    let sound = c.self.invariant in
+    let past = past_of c.self.inside.journal.items in
+    let ok = rw (← c.self.view_is) at c.in_ok-may_drop.ensures in
+    omega (arith, sound.room.entries, sound.places, counts-drop past c.args.session c.args.cause sound.legal.ordered (is-open past c.args.session ok.«open»))
+
+pub invariant_of-self : goal.invariant_of-self
+invariant_of-self c =
+    let sound = c.self.invariant in
+    let past = past_of c.self.inside.journal.items in
+    let ok = rw (← c.self.view_is) at c.in_ok-may_drop.ensures in
+    let s = c.args.session in
+    let e = Drop s c.args.cause in
+    let known = ok.«open».known in
+    let state : kept_of c.index_mut-state.result.now ≡ session_at past s = ap kept_of c.index_mut-state.ensures.value ∙ kept-at past s c.self.inside.sessions.items _ sound.legal.ordered sound.sessions known in
+    let new : Session = record c.index_mut-state.result.now { dropped = true; waiting = c.give_up.new.self; open_out_of_band = None } in
+    let here : kept_of new ≡ session_at (e ∷ past) s =
+        rw c.give_up.ensures (ap (λ (k : Kept). record k { dropped = true; waiting = []; open_out_of_band = None }) state) ∙ sym (drop-here s c.args.cause past) in
+    let less = counts-drop past s c.args.cause sound.legal.ordered (is-open past s ok.«open») in
+    after_entry c.self.inside _ e _ sound record { is_open = is-open past s ok.«open»; holds = ok.holds } tt (drop-placed c.self.inside s _ c.args.cause sound ok.«open» (rw c.len.ensures at c.drop_size-bytes.ensures.exact) c.drop_size-bytes.ensures.kept) record {
+      world = refl;
+      limits = refl;
+      journal = c.put.ensures;
+      sessions = sessions-changed past e s c.self.inside.sessions.items new sound.legal.ordered sound.sessions known refl here refl (λ t. drop-other s t c.args.cause past);
+      turns = c.remove.ensures ∙ turns-changed past e s c.self.inside.turns None sound.legal.ordered sound.turns known refl (sym (drop-turn s c.args.cause past)) (λ t. drop-turn-other s t c.args.cause past);
+      open_count = omega (arith, sound.open_count, less);
+      running = record { request = sound.running.request; command = sound.running.command; known = sound.running.known };
+      moment = sound.moment;
+      stopped = sound.stopped;
+      store = sound.store;
+    }
