@@ -173,22 +173,27 @@ pub few-places : (past : List Entry) (s : ℕ) (waiting : List Request) (places 
 few-places past s waiting places kept all below = (let few = few-bound (mode_of s past) in let count : length waiting ≡ length (waiting_of s past) = ap (λ (l : List Request). length l) kept in omega (arith, count, all, below, few))
 
 -- a refusal that comes before that of a full journal is the refusal
-refused_before : (closed : Option StepFault) (test : Bool) (own : StepFault) (full fault : Option StepFault) → fault ≡ option_or closed (cond test None (Some own)) → is_some fault ≡ true →
-    fault ≡ option_or closed (cond test full (Some own))
-refused_before (Some closed) test own full fault told some = told
+refused_before : (first : Option StepFault) (test : Bool) (own : StepFault) (full fault : Option StepFault) → fault ≡ option_or first (cond test None (Some own)) → is_some fault ≡ true →
+    fault ≡ option_or first (cond test full (Some own))
+refused_before (Some other) test own full fault told some = told
 refused_before None false own full fault told some = told
 refused_before None true own full (Some fault) told some = absurd cc
 refused_before None true own full None told some = absurd cc
 
-pub next-refused : (m : View) (step : Step) (closed : Option StepFault) (test : Bool) (own : StepFault) (full fault : Option StepFault) → refusal_in m step ≡ option_or closed (cond test full (Some own)) →
-    fault ≡ option_or closed (cond test None (Some own)) → is_some fault ≡ true → Next m step fault m
-next-refused m step closed test own full (Some fault) is told some = record {
-  answer = refused_before closed test own full (Some fault) told some ∙ sym is;
+pub next-refused : (m : View) (step : Step) (first : Option StepFault) (test : Bool) (own : StepFault) (full fault : Option StepFault) → refusal_in m step ≡ option_or first (cond test full (Some own)) →
+    fault ≡ option_or first (cond test None (Some own)) → is_some fault ≡ true → Next m step fault m
+next-refused m step first test own full (Some fault) is told some = record {
+  answer = refused_before first test own full (Some fault) told some ∙ sym is;
   journal = refl;
   limits = refl;
   world = refl;
 }
-next-refused m step closed test own full None is told some = absurd cc
+next-refused m step first test own full None is told some = absurd cc
+
+-- no refusal comes before that of a full journal, and the journal is not full
+pub not-refused : (test : Bool) (own : StepFault) (full : Option StepFault) → None ≡ cond test None (Some own) → None ≡ full → None ≡ cond test full (Some own)
+not-refused true own full told room = room
+not-refused false own full told room = absurd cc
 
 -- a session that is told a line is dropped as before
 pub told-dropped : (kept : Kept) (line : List ℕ) → (told kept line).dropped ≡ kept.dropped

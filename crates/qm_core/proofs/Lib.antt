@@ -9,8 +9,6 @@ pub mod InOrder
 pub mod JournalLaws
 pub mod Journals
 pub mod Keeping
-pub mod KeptMonitors
-pub mod KeptSessions
 pub mod Lists
 pub mod Numbers
 pub mod OutOfBand

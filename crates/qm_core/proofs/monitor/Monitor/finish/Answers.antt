@@ -8,7 +8,7 @@ use Rattle.qm_core.specs.Sessions.{Kept, session_at, told}
 use Rattle.qm_core.specs.Standing.{answers, running_of, was_opened}
 use Rattle.qm_core.specs.declared.entries.{Entry.TheVariants.Done, StepFault.TheVariants.NotRunning}
 use Rattle.qm_core.specs.declared.requests.{Request.Request, RequestName.RequestName}
-use Rattle.qm_core.proofs.Keeping.{after_entry, kept-at, last-moment, may-come, next-refused, places-at, places-kept, sessions-changed, sessions-count, told-dropped}
+use Rattle.qm_core.proofs.Keeping.{after_entry, kept-at, last-moment, may-come, next-entry, next-refused, not-refused, places-at, places-kept, sessions-changed, sessions-count, told-dropped}
 use Rattle.qm_core.proofs.Pasts.{opened-within, running-opened}
 use Rattle.qm_core.proofs.Records.{done-here, done-other}
 use Rattle.qm_core.proofs.monitor.Monitor.finish.Goals as goal
@@ -83,3 +83,19 @@ invariant_of-self-2 c =
       stopped = rw (stopped, sound.stopped) refl;
       store = c.commit.ensures ∙ made.store ∙ rw (made.reply, sound.store) refl;
     }
+
+pub returns-clause-next : goal.returns-clause-next
+returns-clause-next c other =
+    let sound = c.self.invariant in
+    let past = past_of c.self.inside.journal.items in
+    let ok = rw (← c.self.view_is) at c.in_ok-request.ensures in
+    let made = c.in_ok-reply.ensures in
+    let fault = (rw (← c.self.view_is) at c.in_ok-bytes.ensures).fault in
+    let s = c.args.session in
+    let k = c.args.number in
+    let planned = rw (← c.self.view_is) at c.requires.planned in
+    let e = Done s k c.args.plan c.in_ok-reply.field-0.reply c.max-moment.result in
+    let is : e ≡ entry_of c.self.inside.world past (Finish s k c.args.moment) = rw (planned, made.reply, sound.store, ok.runs, c.max-moment.ensures, sound.moment) refl in
+    let full = full_refusal c.self.inside.limits past (entry_of c.self.inside.world past (Finish s k c.args.moment)) in
+    let answer = not-refused (is_running s k past) NotRunning full ok.fault (fault ∙ ap (full_refusal c.self.inside.limits past) is) in
+    rw (← c.self.view_is) (next-entry c.self.inside _ (Finish s k c.args.moment) e _ answer is c.put.ensures refl)
