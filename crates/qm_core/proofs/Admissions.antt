@@ -1,13 +1,13 @@
 -- A request that is answered is the one that was admitted under its number.
-use Rattle.std.proofs.Common.{◌≡◌, ℕ, ◌+◌, ◌≤◌, Option, Some, None, List, [], ◌∷◌, ◌++◌, refl, ap, sym, ◌∙◌, arith}
+use Rattle.std.proofs.Common.{◌≡◌, ℕ, ◌+◌, ◌≤◌, Option, Some, List, [], ◌∷◌, ◌++◌, refl, ap, arith}
 use Rattle.qm_caps.specs.declared.mode.Lane.{Lane, TheVariants.InBand, TheVariants.Oob}
 use Rattle.qm_core.specs.declared.entries.Entry.{Entry, TheVariants.Open, TheVariants.Admit, TheVariants.Start, TheVariants.Done, TheVariants.OobDone, TheVariants.Take, TheVariants.Eof, TheVariants.Drop}
 use Rattle.qm_core.specs.declared.{inputs.Input.Input, requests.Request.Request}
 use Rattle.qm_core.specs.{Legal.AllFollow, Order.MayFollow}
-use Rattle.qm_core.specs.Standing.{admitted_of, running_of, open_out_of_band_of, mode_of, named_of}
+use Rattle.qm_core.specs.Standing.{admitted_of, running_of, open_out_of_band_of, named_of}
 use Rattle.qm_core.proofs.Holding.{Holding, IsGood, AllGood, IsCounted, hold, hold-all, hold-map, counted, admitted-later, admitted-here}
 use Rattle.qm_core.proofs.Journals.{earlier}
-use Rattle.qm_core.proofs.Pasts.{IsNamed, named}
+use Rattle.qm_core.proofs.Pasts.{named}
 
 -- under this name, the request has this lane and this input
 abbrev pub Matches : ℕ → ℕ → Lane → Input → Lane → Request → Type 0

@@ -1,6 +1,6 @@
 -- How many sessions are open, after one more entry.
-use Rattle.std.proofs.Common.{◌≡◌, ◌≢◌, ℕ, ◌+◌, ◌<◌, ◌≤◌, ◌==◌, suc, zero, Bool, true, false, not, cond, ◌&&◌, ◌||◌, List, [], ◌∷◌, ◌++◌, length, refl, ap, sym, ◌∙◌, arith, inl, inr}
-use Rattle.std.specs.List.{list_any, count_by}
+use Rattle.std.proofs.Common.{◌≡◌, ◌≢◌, ℕ, ◌+◌, ◌<◌, ◌≤◌, ◌==◌, suc, zero, Bool, true, false, ◌&&◌, ◌||◌, List, [], ◌∷◌, ◌++◌, length, refl, ap, sym, ◌∙◌, arith, inl, inr}
+use Rattle.std.specs.List.{count_by}
 use Rattle.std.proofs.lemmas.Bool.{cases_eq}
 use Rattle.std.proofs.lemmas.List.Folds.{list_any-append}
 use Rattle.std.proofs.lemmas.List.Sums.{count_by-le-length}
@@ -47,7 +47,7 @@ counts-open past s legal next =
     let before : count_by test (numbers_from 1 n) ≡ count_by (λ t. is_open t past) (numbers_from 1 n) = count-same test (λ t. is_open t past) 1 n (λ t low high. old t (within-opened t past legal (omega (arith, low)) (omega (arith, high)))) in
     let list = sessions-are past legal in
     let first : count_by test (sessions_of past) ≡ open_count_of past =
-        ap (λ (l : List ℕ). count_by test l) list ∙ before ∙ sym (ap (λ (l : List ℕ). count_by (λ t. is_open t past) l) list) in
+    ap (λ (l : List ℕ). count_by test l) list ∙ before ∙ sym (ap (λ (l : List ℕ). count_by (λ t. is_open t past) l) list) in
     omega (arith, parts, one, first) where
       last : (b : Bool) → (b || ((s == s) || false)) ≡ true
       last true = refl

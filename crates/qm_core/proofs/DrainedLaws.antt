@@ -12,7 +12,7 @@ use Rattle.qm_core.proofs.Counting.{unit, count-cons, count-append}
 use Rattle.qm_core.proofs.Holding.{admitted-grows, admitted-here}
 use Rattle.qm_core.proofs.Journals.{earlier}
 use Rattle.qm_core.proofs.Pasts.{both, equal}
-use Rattle.qm_core.proofs.Replied.{admissions, has_number, is_named, places, stands, once}
+use Rattle.qm_core.proofs.Replied.{admissions, has_number, is_named, stands, once}
 
 -- the number of a request that was admitted is within the admissions of its session
 pub admitted-number : (s k : ℕ) (past : List Entry) → AllFollow past → list_any (admits_request s k) past ≡ true → (0 < k) × (k ≤ admitted_of s past)

@@ -1,5 +1,5 @@
 -- What holds of each request that waits, runs or is open, where it holds of each that is admitted.
-use Rattle.std.proofs.Common.{◌≡◌, ℕ, ◌+◌, ◌≤◌, ◌<◌, ◌==◌, Bool, true, false, not, cond, ◌&&◌, ◌||◌, Option, Some, None, List, [], ◌∷◌, ◌++◌, length, refl, ap, sym, ◌∙◌, subst, arith}
+use Rattle.std.proofs.Common.{◌≡◌, ℕ, ◌+◌, ◌≤◌, ◌==◌, Bool, true, false, not, cond, ◌&&◌, ◌||◌, Option, Some, None, List, [], ◌∷◌, ◌++◌, refl, ◌∙◌, subst, arith}
 use Rattle.std.specs.List.{filter, find, list_any}
 use Rattle.qm_caps.specs.Lanes.{is_in_band}
 use Rattle.qm_caps.specs.declared.mode.Lane.{Lane, TheVariants.InBand, TheVariants.Oob}
@@ -7,7 +7,7 @@ use Rattle.qm_core.specs.declared.entries.Entry.{Entry, TheVariants.Open, TheVar
 use Rattle.qm_core.specs.declared.{inputs.Input.Input, requests.Request.Request}
 use Rattle.qm_core.specs.{Legal.AllFollow, Order.MayFollow, Requests.admits_request}
 use Rattle.qm_core.specs.Standing.{admits, admitted_of, mode_of, waiting_of, running_of, open_out_of_band_of}
-use Rattle.qm_core.proofs.{Counting.unit, Counting.count-cons, Pasts.equal, Pasts.same}
+use Rattle.qm_core.proofs.{Counting.count-cons, Pasts.same}
 
 abbrev pub Each : {A : Type 0} → (A → Type 0) → List A → Type 0
 Each P [] = Unit {0}

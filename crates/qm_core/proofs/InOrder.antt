@@ -1,6 +1,6 @@
 -- The in-band requests of a session are started and answered in their order.
-use Rattle.std.proofs.Common.{◌≡◌, ◌≢◌, ℕ, ◌+◌, ◌≤◌, ◌<◌, ◌==◌, nat_le, nat_lt, Bool, true, false, not, cond, ◌&&◌, ◌||◌, Option, Some, None, List, [], ◌∷◌, ◌++◌, reverse, refl, ap, sym, ◌∙◌, subst, arith, inl, inr}
-use Rattle.std.specs.List.{count_by, filter, find, list_all}
+use Rattle.std.proofs.Common.{◌≡◌, ℕ, ◌+◌, ◌≤◌, ◌<◌, ◌==◌, nat_lt, Bool, true, false, not, cond, ◌&&◌, Option, Some, None, List, [], ◌∷◌, ◌++◌, refl, ap, sym, ◌∙◌, subst, arith, inl, inr}
+use Rattle.std.specs.List.{list_all}
 use Rattle.std.proofs.lemmas.Bool.{cases_lt, Decides.nat_tests}
 use Rattle.std.proofs.lemmas.List.Folds.{list_all-append}
 use Rattle.qm_caps.specs.declared.mode.Lane.{Lane, TheVariants.InBand, TheVariants.Oob}
@@ -8,12 +8,12 @@ use Rattle.qm_caps.specs.Lanes.{is_in_band}
 use Rattle.qm_plan.specs.declared.recipes.Plan.{Plan}
 use Rattle.qm_json.specs.declared.value.Json.{Json}
 use Rattle.qm_core.specs.declared.entries.Entry.{Entry, TheVariants.Open, TheVariants.Admit, TheVariants.Start, TheVariants.Done, TheVariants.OobDone, TheVariants.Take, TheVariants.Eof, TheVariants.Drop}
-use Rattle.qm_core.specs.declared.{inputs.Input.Input, requests.Request.Request, world.World.World}
-use Rattle.qm_core.specs.{Legal.AllFollow, Legal.IsLegal, Legal.past_of, Order.MayFollow, Order.MayStart, Requests.replies_to}
+use Rattle.qm_core.specs.declared.{requests.Request.Request}
+use Rattle.qm_core.specs.{Legal.AllFollow, Order.MayFollow, Order.MayStart, Requests.replies_to}
 use Rattle.qm_core.specs.Standing.{admits, admitted_of, mode_of, waiting_of, running_of, open_out_of_band_of, named_of}
-use Rattle.qm_core.proofs.{Admissions.run-matched, Admissions.open-matched, Counting.unit, Counting.count-cons, Counting.count-append, Journals.earlier}
-use Rattle.qm_core.proofs.Holding.{IsCounted, counted, admitted-grows, admitted-later, admitted-here}
-use Rattle.qm_core.proofs.Pasts.{Begins, begins, begun, both, differ, equal, same, named}
+use Rattle.qm_core.proofs.{Counting.unit, Counting.count-cons, Counting.count-append, Journals.earlier}
+use Rattle.qm_core.proofs.Holding.{counted, admitted-grows, admitted-later}
+use Rattle.qm_core.proofs.Pasts.{Begins, begins, begun, both, equal, same, named}
 use Rattle.qm_core.proofs.Replied.{no-more, once}
 
 -- the request of the session that was started last, 0 without one

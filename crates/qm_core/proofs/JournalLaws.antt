@@ -1,5 +1,5 @@
 -- The laws of legal pasts, told of journals.
-use Rattle.std.proofs.Common.{◌≡◌, ℕ, ◌+◌, ◌<◌, ◌≤◌, ◌==◌, Bool, true, false, ◌&&◌, Option, Some, None, List, [], ◌∷◌, ◌++◌, reverse, refl, ap, sym, ◌∙◌, subst, append_assoc, arith}
+use Rattle.std.proofs.Common.{◌≡◌, ℕ, ◌<◌, ◌≤◌, ◌==◌, true, false, Option, Some, List, ◌∷◌, ◌++◌, reverse, refl, ap, sym, ◌∙◌, subst, append_assoc, arith}
 use Rattle.std.specs.List.{count_by, list_any}
 use Rattle.std.proofs.lemmas.List.{reverse-append}
 use Rattle.qm_caps.specs.declared.mode.Lane.{Lane, TheVariants.InBand, TheVariants.Oob}
@@ -27,7 +27,7 @@ pub drained : (world : World) (before after : List Entry) (s k : ℕ) → IsLega
 drained world before after s k legal is_drained admitted =
     let is = parted before after in
     let known : list_any (admits_request s k) (reverse after ++ past_of before) ≡ true =
-        ap (λ (l : List Entry). list_any (admits_request s k) l) (sym is) ∙ any-reverse (admits_request s k) (before ++ after) ∙ admitted in
+    ap (λ (l : List Entry). list_any (admits_request s k) l) (sym is) ∙ any-reverse (admits_request s k) (before ++ after) ∙ admitted in
     sym (count-reverse (replies_to s k) (before ++ after)) ∙ ap (λ (l : List Entry). count_by (replies_to s k) l) is
     ∙ drained-once s k (reverse after) (past_of before) (subst AllFollow is legal.ordered) is_drained known
 
@@ -105,8 +105,8 @@ overtaken world before between e later f after s k j lane input legal first seco
     not-overtaken world (before ++ Admit s k lane input ∷ between) e later f after s k j lane
     (subst (λ (l : List Entry). IsLegal world l) (sym (append_assoc before (Admit s k lane input ∷ between) (e ∷ (later ++ f ∷ after)))) legal) first second low
     (λ t i plan reply moment is of_session number. out-of-band world before between (later ++ f ∷ after) s k lane input plan reply moment
-        (subst (λ (x : Entry). IsLegal world (before ++ Admit s k lane input ∷ (between ++ x ∷ (later ++ f ∷ after))))
-        (is ∙ ap (λ (u : ℕ). OobDone u i plan reply moment) of_session ∙ ap (λ (n : ℕ). OobDone s n plan reply moment) number) legal))
+    (subst (λ (x : Entry). IsLegal world (before ++ Admit s k lane input ∷ (between ++ x ∷ (later ++ f ∷ after))))
+    (is ∙ ap (λ (u : ℕ). OobDone u i plan reply moment) of_session ∙ ap (λ (n : ℕ). OobDone s n plan reply moment) number) legal))
 
 pub no-error : (world : World) (before between after : List Entry) (s k : ℕ) (lane : Lane) (input : Input) (plan : Option Plan) (reply : Json) (moment : ℕ) →
     IsLegal world (before ++ Admit s k lane input ∷ (between ++ OobDone s k plan reply moment ∷ after)) → names_out_of_band world input ≡ false → is_return reply ≡ false
@@ -123,7 +123,7 @@ pub at-most-once : (world : World) (before between after : List Entry) (s t : �
     list_any (starts s) between ≡ false → list_any (drops s) between ≡ false → count_by (starts t) between ≤ 1
 at-most-once world before between after s t legal ready no_start no_drop =
     let is : past_of (before ++ (between ++ after)) ≡ reverse after ++ (reverse between ++ past_of before) =
-        parted before (between ++ after) ∙ ap (λ (l : List Entry). l ++ past_of before) (parted between after) ∙ append_assoc (reverse after) (reverse between) (past_of before) in
+    parted before (between ++ after) ∙ ap (λ (l : List Entry). l ++ past_of before) (parted between after) ∙ append_assoc (reverse after) (reverse between) (past_of before) in
     let ordered : AllFollow (reverse between ++ past_of before) = earlier (reverse after) (reverse between ++ past_of before) (subst AllFollow is legal.ordered) in
     let most = (overtakes s t (reverse between) (past_of before) ordered ready (any-reverse (starts s) between ∙ no_start) (any-reverse (drops s) between ∙ no_drop)).most in
     subst (λ (n : ℕ). n ≤ 1) (count-reverse (starts t) between) most

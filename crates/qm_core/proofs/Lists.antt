@@ -1,10 +1,10 @@
 -- Lists of what stands for each session, in the order of opening, and one more entry.
-use Rattle.std.proofs.Common.{◌≡◌, ◌≢◌, ℕ, ◌+◌, ◌-◌, ◌<◌, ◌≤◌, suc, List, [], ◌∷◌, ◌++◌, length, map, get_or, refl, ap, sym, ◌∙◌, subst, arith}
+use Rattle.std.proofs.Common.{◌≡◌, ◌≢◌, ℕ, ◌+◌, ◌-◌, List, [], ◌∷◌, ◌++◌, length, map, get_or, ap, sym, ◌∙◌, arith}
 use Rattle.std.proofs.lemmas.List.{map_push}
 use Rattle.std.proofs.Math.ListN.{set}
 use Rattle.qm_core.specs.declared.entries.Entry.{Entry}
 use Rattle.qm_core.specs.{Legal.AllFollow, Standing.sessions_of, Standing.was_opened}
-use Rattle.qm_core.proofs.{Numbers.numbers_from, Numbers.map-same, Numbers.map-one, Numbers.get-map, Pasts.opened-within, Pasts.sessions-are}
+use Rattle.qm_core.proofs.{Numbers.map-same, Numbers.map-one, Numbers.get-map, Pasts.opened-within, Pasts.sessions-are}
 use Rattle.std.specs.Prelude.{true}
 
 -- what stands for a session is found at its place
@@ -30,5 +30,5 @@ list-more {X} f g past s legal next others =
     let n = length (sessions_of past) in
     let list = sessions-are past legal in
     let old : map g (sessions_of past) ≡ map f (sessions_of past) =
-        ap (λ (l : List ℕ). map g l) list ∙ map-same f g 1 n (λ t low high. others t (omega (arith, next, high))) ∙ sym (ap (λ (l : List ℕ). map f l) list) in
+    ap (λ (l : List ℕ). map g l) list ∙ map-same f g 1 n (λ t low high. others t (omega (arith, next, high))) ∙ sym (ap (λ (l : List ℕ). map f l) list) in
     ap (λ (l : List X). l ++ g s ∷ []) (sym old) ∙ sym (map_push g (sessions_of past) s)

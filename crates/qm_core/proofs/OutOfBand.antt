@@ -1,19 +1,19 @@
 -- A request out of band whose command does not support that is refused, and changes nothing.
-use Rattle.std.proofs.Common.{◌≡◌, ℕ, Bool, true, false, not, cond, ◌&&◌, Option, Some, None, List, [], ◌∷◌, ◌++◌, codes, reverse, find, option_map, refl, ap, sym, ◌∙◌, subst}
-use Rattle.std.specs.{Bool.if◌then◌else◌, Option.option_and_then, Option.option_map_or}
-use Rattle.qm_json.specs.declared.value.{Json.Json, Json.TheVariants.Obj, Member.Member}
+use Rattle.std.proofs.Common.{◌≡◌, ℕ, false, Option, Some, None, List, [], ◌∷◌, ◌++◌, reverse, find, option_map, refl, ap, sym, ◌∙◌}
+use Rattle.std.specs.{Option.option_and_then, Option.option_map_or}
+use Rattle.qm_json.specs.declared.value.{Json.Json, Member.Member}
 use Rattle.qm_json.specs.Members.{members_of}
 use Rattle.qapi_types.specs.Lookups.{place_of, command_names}
 use Rattle.qm_admit.specs.Views.{string_of}
-use Rattle.qm_caps.specs.declared.mode.Lane.{Lane, TheVariants.InBand, TheVariants.Oob}
+use Rattle.qm_caps.specs.declared.mode.Lane.{Lane, TheVariants.Oob}
 use Rattle.qm_caps.specs.declared.mode.Mode.{Mode}
 use Rattle.qm_caps.specs.Lanes.{lane_of as value_lane_of}
 use Rattle.qm_plan.specs.{Stores.Contents, declared.recipes.Plan.Plan}
 use Rattle.qm_core.specs.declared.entries.Entry.{Entry, TheVariants.Open, TheVariants.Admit, TheVariants.Start, TheVariants.Done, TheVariants.OobDone, TheVariants.Take, TheVariants.Eof, TheVariants.Drop}
 use Rattle.qm_core.specs.declared.{inputs.Input.Input, inputs.Input.TheVariants.Doc, inputs.Input.TheVariants.Bad, requests.Request.Request, world.World.World}
 use Rattle.qm_core.specs.{Inputs.arguments_of, Inputs.is_verb, Inputs.lane_of, Legal.AllFollow, Legal.IsLegal, Legal.past_of, Order.MayFollow, Requests.names_out_of_band, State.store_of, State.stored}
-use Rattle.qm_core.specs.{Planned.planned_for, Planned.plan_for, Planned.command_by, Replies.is_return, Replies.reply_to, Standing.open_out_of_band_of}
-use Rattle.qm_core.specs.Verdicts.{Refusal, Malformed, NoVerb, VerbNoString, UnknownCommand, NotOutOfBand, Verdict, Refused, Run, refused_or, first_of, run_of, bad_arguments, misplaced, malformed, allows_out_of_band, command_verdict_of, verb_verdict_of, request_verdict_of, verdict_of}
+use Rattle.qm_core.specs.{Planned.planned_for, Planned.plan_for, Planned.command_by, Replies.is_return, Replies.reply_to}
+use Rattle.qm_core.specs.Verdicts.{Refusal, Malformed, NoVerb, VerbNoString, UnknownCommand, NotOutOfBand, Verdict, Refused, refused_or, first_of, run_of, bad_arguments, misplaced, malformed, allows_out_of_band, command_verdict_of, verb_verdict_of, verdict_of}
 use Rattle.qm_core.proofs.{Admissions.open-matched, Journals.placed_after, StoreLaws.refused-error}
 use Rattle.qm_core.proofs.Holding.{Holding, IsGood, hold, none-held}
 

@@ -7,7 +7,7 @@ use Rattle.std.proofs.lemmas.List.{length-append, length-reverse}
 use Rattle.std.proofs.lemmas.List.Folds.{list_any-append, list_all-append}
 use Rattle.std.proofs.lemmas.List.Sums.{count_by-le-length}
 use Rattle.qm_caps.specs.Lanes.{is_in_band}
-use Rattle.qm_queue.specs.{Turns.precedes, Turns.first_of, declared.turns.TurnItem.TurnItem}
+use Rattle.qm_queue.specs.{Turns.precedes, declared.turns.TurnItem.TurnItem}
 use Rattle.qm_core.specs.declared.entries.Entry.{Entry}
 use Rattle.qm_core.specs.declared.entries.Entry.TheVariants.{Open, Admit, Start, Done, OobDone, Take, Eof, Drop}
 use Rattle.qm_core.specs.declared.{requests.Request.Request, requests.RequestName.RequestName, TheConstants.MOST_SESSIONS}

@@ -1,18 +1,17 @@
 -- What stands of each session, after one more entry.
-use Rattle.std.proofs.Common.{◌≡◌, ◌≢◌, ℕ, ◌+◌, ◌==◌, Bool, true, false, not, cond, ◌&&◌, ◌||◌, Option, Some, None, List, [], ◌∷◌, ◌++◌, length, drop, codes, refl, ap, sym, ◌∙◌, subst, arith}
+use Rattle.std.proofs.Common.{◌≡◌, ◌≢◌, ℕ, ◌+◌, ◌==◌, Bool, true, false, cond, ◌&&◌, ◌||◌, Option, Some, None, List, [], ◌∷◌, ◌++◌, length, codes, refl, ap, sym, ◌∙◌, subst, arith}
 use Rattle.std.proofs.lemmas.List.Folds.{list_any-append}
-use Rattle.std.proofs.Math.Seq.{drop-length}
 use Rattle.qm_json.specs.{Printing.printed, declared.value.Json.Json}
 use Rattle.qm_caps.specs.{Greetings.greeting_value, Lanes.is_in_band, Modes.is_negotiating}
 use Rattle.qm_caps.specs.declared.mode.Lane.{Lane, TheVariants.InBand, TheVariants.Oob}
 use Rattle.qm_plan.specs.declared.recipes.Plan.{Plan}
 use Rattle.qm_core.specs.declared.entries.{Cause.Cause, Entry.Entry}
 use Rattle.qm_core.specs.declared.entries.Entry.TheVariants.{Open, Admit, Start, Done, OobDone, Take, Eof, Drop}
-use Rattle.qm_core.specs.declared.{inputs.Input.Input, requests.Request.Request}
+use Rattle.qm_core.specs.declared.{inputs.Input.Input}
 use Rattle.qm_core.specs.{Legal.AllFollow, Planned.mode_by}
-use Rattle.qm_core.specs.Sessions.{Kept, session_at, fresh, sent, told, fits}
+use Rattle.qm_core.specs.Sessions.{Kept, session_at, fresh, sent, told}
 use Rattle.qm_core.specs.Standing.{sessions_of, was_opened, is_open, is_dropped, admits, admitted_of, mode_of, waiting_of, running_of, open_out_of_band_of, answers, last_start_of, next_request}
-use Rattle.qm_core.specs.Transcript.{has_overrun, untaken_of, taken_of, transcript_of}
+use Rattle.qm_core.specs.Transcript.{untaken_of}
 use Rattle.qm_core.proofs.Counting.{count-cons}
 use Rattle.qm_core.proofs.Pasts.{Begins, begun, differ, same, or_none, open_opened, start-opened, named-opened}
 use Rattle.qm_core.proofs.Transcripts.{sent-more, none-untaken}
@@ -60,10 +59,10 @@ admit-here s k lane input past next = by_lane lane where
   more l = (let count : admitted_of s (Admit s k l input ∷ past) ≡ 1 + admitted_of s past = count-cons (admits s) (Admit s k l input) past ∙ rw (same s) refl in omega (arith, count))
 
   by_lane : (l : Lane) → session_at (Admit s k l input ∷ past) s ≡ record (session_at past s) {
-      admitted = admitted_of s past + 1;
-      waiting = cond (is_in_band l) (waiting_of s past ++ next_request s input past ∷ []) (waiting_of s past);
-      open_out_of_band = cond (is_in_band l) (open_out_of_band_of s past) (Some (next_request s input past));
-    }
+    admitted = admitted_of s past + 1;
+    waiting = cond (is_in_band l) (waiting_of s past ++ next_request s input past ∷ []) (waiting_of s past);
+    open_out_of_band = cond (is_in_band l) (open_out_of_band_of s past) (Some (next_request s input past));
+  }
   by_lane InBand = rw (more InBand, same s, next) refl
   by_lane Oob = rw (more Oob, same s, next) refl
 
@@ -82,8 +81,8 @@ pub done-here : (s k : ℕ) (plan : Option Plan) (reply : Json) (moment : ℕ) (
     }
 done-here s k plan reply moment past legal known = either (is_dropped s past) refl where
   either : (d : Bool) → is_dropped s past ≡ d → session_at (Done s k plan reply moment ∷ past) s ≡ record (cond d (session_at past s) (sent (session_at past s) (printed reply))) {
-      mode = cond (is_negotiating (mode_of s past) && answers (codes "qmp_capabilities") (running_of past) reply) (mode_by plan) (mode_of s past);
-    }
+    mode = cond (is_negotiating (mode_of s past) && answers (codes "qmp_capabilities") (running_of past) reply) (mode_by plan) (mode_of s past);
+  }
   either true h = rw (same s, known, h) refl
   either false h = (let more = sent-more s past (printed reply) legal in rw (same s, known, h, more.0, more.1) refl)
 

@@ -1,17 +1,16 @@
 -- Each request is answered at most once, and stands at one place until it is answered or given up.
-use Rattle.std.proofs.Common.{◌≡◌, ℕ, ◌+◌, ◌≤◌, ◌<◌, ◌==◌, nat_le, nat_lt, Bool, true, false, not, cond, ◌&&◌, ◌||◌, Option, Some, None, is_none, List, [], ◌∷◌, ◌++◌, length, reverse, refl, ap, sym, ◌∙◌, subst, arith}
-use Rattle.std.specs.List.{count_by, filter, find, list_any, list_all}
+use Rattle.std.proofs.Common.{◌≡◌, ℕ, ◌+◌, ◌≤◌, ◌==◌, nat_le, nat_lt, Bool, true, false, cond, ◌&&◌, ◌||◌, Option, Some, None, List, [], ◌∷◌, refl, ap, sym, ◌∙◌, subst, arith}
+use Rattle.std.specs.List.{count_by, find, list_all}
 use Rattle.std.proofs.lemmas.Bool.Decides.{nat_tests}
-use Rattle.std.proofs.lemmas.List.{nil_from_length}
 use Rattle.qm_caps.specs.declared.mode.Lane.{Lane, TheVariants.InBand, TheVariants.Oob}
 use Rattle.qm_json.specs.declared.value.Json.{Json}
 use Rattle.qm_plan.specs.declared.recipes.Plan.{Plan}
 use Rattle.qm_core.specs.declared.entries.Entry.{Entry, TheVariants.Open, TheVariants.Admit, TheVariants.Start, TheVariants.Done, TheVariants.OobDone, TheVariants.Take, TheVariants.Eof, TheVariants.Drop}
 use Rattle.qm_core.specs.declared.{entries.Cause.Cause, inputs.Input.Input, requests.Request.Request, requests.RequestName.RequestName}
-use Rattle.qm_core.specs.{Drained.is_drained, Legal.AllFollow, Order.MayFollow, Order.MayStart, Requests.replies_to}
-use Rattle.qm_core.specs.Standing.{admits, admitted_of, mode_of, is_dropped, is_ended, is_open, in_flight_of, is_of, waiting_of, running_of, open_out_of_band_of, named_of}
+use Rattle.qm_core.specs.{Legal.AllFollow, Order.MayStart, Requests.replies_to}
+use Rattle.qm_core.specs.Standing.{admits, admitted_of, mode_of, is_dropped, waiting_of, running_of, open_out_of_band_of, named_of}
 use Rattle.qm_core.proofs.Counting.{unit, count-cons, count-push}
-use Rattle.qm_core.proofs.Pasts.{Begins, begins, begun, both, differ, equal, same, is_of_session, waiting-session}
+use Rattle.qm_core.proofs.Pasts.{Begins, begins, begun, both, equal, same, is_of_session, waiting-session}
 
 abbrev pub has_number : ℕ → Request → Bool
 has_number k q = q.number == k
@@ -104,10 +103,10 @@ start-moves s k t j past may legal = either (t == s) refl where
       let started = begun past t j b legal in
       let left : count_by (has_number k) (waiting_of s (Start t j ∷ past)) ≡ count_by (has_number k) b.others = ap (λ (l : List Request). count_by (has_number k) l) (subst (λ (u : ℕ). waiting_of u (Start t j ∷ past) ≡ b.others) is started.waits) in
       let before : count_by (has_number k) (waiting_of s past) ≡ unit (b.request.number == k) + count_by (has_number k) b.others =
-          ap (λ (l : List Request). count_by (has_number k) l) (subst (λ (u : ℕ). waiting_of u past ≡ b.request ∷ b.others) is b.waiting) ∙ count-cons (has_number k) b.request b.others in
+      ap (λ (l : List Request). count_by (has_number k) l) (subst (λ (u : ℕ). waiting_of u past ≡ b.request ∷ b.others) is b.waiting) ∙ count-cons (has_number k) b.request b.others in
       let of_session : (b.request.session == s) ≡ true = ap (λ (n : ℕ). n == s) (b.session ∙ is) ∙ same s in
       let runs : unit (is_named s k (running_of (Start t j ∷ past))) ≡ unit (b.request.number == k) =
-          ap (λ (r : Option Request). unit (is_named s k r)) started.runs ∙ ap (λ (c : Bool). unit (c && b.request.number == k)) of_session in
+      ap (λ (r : Option Request). unit (is_named s k r)) started.runs ∙ ap (λ (c : Bool). unit (c && b.request.number == k)) of_session in
       omega (arith, left, before, runs, idle)
   either false h =
       let runs : unit (is_named s k (running_of (Start t j ∷ past))) ≡ 0 = ap (λ (c : Bool). unit c) (found-other t s k _ (waiting_of t past) (waiting-session t past) h) in

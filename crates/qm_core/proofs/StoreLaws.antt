@@ -4,7 +4,7 @@ use Rattle.qm_json.specs.declared.value.Json.TheViews.{outs-Obj}
 use Rattle.qm_json.specs.{Members.has_name, Members.layer_members, Members.member_of, Members.members_of, declared.value.Json.Json, declared.value.Json.TheVariants.Obj, declared.value.Member.Member}
 use Rattle.std.specs.Bool.{if◌then◌else◌}
 use Rattle.qm_caps.specs.declared.mode.Mode.{Mode}
-use Rattle.qm_plan.specs.{Plans.arguments_of, Plans.given_arguments, Plans.plan_of, declared.calls.Call.Call, declared.recipes.Plan.Plan}
+use Rattle.qm_plan.specs.{Plans.arguments_of, Plans.given_arguments, Plans.plan_of, declared.calls.Call.Call}
 use Rattle.qm_plan.specs.{Applying.Outcome, Applying.applied_of, Stores.Contents, declared.applied.ApplyFault.ApplyFault}
 use Rattle.qm_core.specs.{Inputs.arguments_in, Inputs.document_of, Planned.call_of, Planned.call_with, Planned.recipe_at}
 use Rattle.qm_core.specs.{Effects.Effect, Effects.effect_of, Effects.facts_of, Planned.command_by, Planned.command_for, Planned.plan_for, Planned.planned_for, Replies.effect_member, Replies.id_of, Replies.id_members, Replies.is_return, Replies.outcome_of, Replies.reply_to, State.stored, State.effect_store, State.verdict_store, State.left_by, Verdicts.verdict_of}

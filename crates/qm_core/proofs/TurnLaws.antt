@@ -1,17 +1,17 @@
 -- While a session waits, each other session is started at most once before it.
-use Rattle.std.proofs.Common.{◌≡◌, ℕ, ◌+◌, ◌≤◌, ◌<◌, ◌==◌, nat_lt, Bool, true, false, not, cond, ◌&&◌, ◌||◌, Option, Some, None, List, [], ◌∷◌, ◌++◌, length, refl, ap, sym, ◌∙◌, subst, arith, inl, inr}
+use Rattle.std.proofs.Common.{◌≡◌, ℕ, ◌+◌, ◌≤◌, ◌<◌, ◌==◌, nat_lt, Bool, true, false, not, cond, ◌&&◌, Option, Some, None, List, [], ◌∷◌, ◌++◌, length, refl, sym, ◌∙◌, subst, arith, inl, inr}
 use Rattle.std.specs.List.{count_by, list_any}
 use Rattle.std.proofs.lemmas.Bool.{cases_lt, Decides.nat_tests}
 use Rattle.std.proofs.lemmas.List.{length-append}
 use Rattle.std.proofs.lemmas.List.Folds.{list_any-append}
 use Rattle.qm_caps.specs.Lanes.{is_in_band}
-use Rattle.qm_queue.specs.{Turns.precedes, declared.turns.TurnItem.TurnItem}
+use Rattle.qm_queue.specs.{Turns.precedes}
 use Rattle.qm_core.specs.declared.entries.Entry.{Entry, TheVariants.Open, TheVariants.Admit, TheVariants.Start, TheVariants.Done, TheVariants.OobDone, TheVariants.Take, TheVariants.Eof, TheVariants.Drop}
 use Rattle.qm_core.specs.declared.requests.Request.{Request}
 use Rattle.qm_core.specs.{Legal.AllFollow, Order.MayFollow, Order.MayStart, Requests.starts}
 use Rattle.qm_core.specs.Standing.{sessions_of, was_opened, is_dropped, is_open, drops, is_ready, waiting_of, last_start_of, turn_item}
-use Rattle.qm_core.proofs.Counting.{unit, count-cons}
-use Rattle.qm_core.proofs.Pasts.{begins, both, differ, equal, or_none, ready-open}
+use Rattle.qm_core.proofs.Counting.{count-cons}
+use Rattle.qm_core.proofs.Pasts.{begins, both, differ, equal, or_none}
 
 -- the start, if there is one, is among so many entries; or after them
 abbrev IsUpTo : ℕ → Option ℕ → Type 0

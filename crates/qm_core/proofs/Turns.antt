@@ -1,17 +1,16 @@
 -- The items of the queue of turns, after one more entry.
-use Rattle.std.proofs.Common.{◌≡◌, ◌≢◌, ℕ, ◌+◌, ◌==◌, Bool, true, false, not, cond, ◌&&◌, ◌||◌, Option, Some, None, List, [], ◌∷◌, ◌++◌, length, map, option_to_list, refl, ap, sym, ◌∙◌, arith}
+use Rattle.std.proofs.Common.{◌≡◌, ◌≢◌, ℕ, ◌+◌, ◌==◌, Bool, true, false, not, cond, ◌&&◌, ◌||◌, Some, None, List, [], ◌∷◌, ◌++◌, length, map, option_to_list, refl, ap, sym, ◌∙◌, arith}
 use Rattle.std.specs.List.{filter, flat_map}
 use Rattle.std.proofs.lemmas.List.{length-append}
 use Rattle.std.proofs.lemmas.List.Folds.{list_any-append}
-use Rattle.qm_caps.specs.Lanes.{is_in_band}
 use Rattle.qm_caps.specs.declared.mode.Lane.{Lane, TheVariants.InBand, TheVariants.Oob}
 use Rattle.qm_queue.specs.{Turns.turn_of as first_turn, Turns.waiting_in, declared.turns.TurnItem.TurnItem}
 use Rattle.qm_core.specs.declared.entries.{Cause.Cause, Entry.Entry}
 use Rattle.qm_core.specs.declared.entries.Entry.TheVariants.{Open, Admit, Start, Drop}
-use Rattle.qm_core.specs.declared.{inputs.Input.Input, requests.Request.Request}
+use Rattle.qm_core.specs.declared.{inputs.Input.Input}
 use Rattle.qm_core.specs.{Legal.AllFollow, Sessions.Kept, Sessions.turn_at}
-use Rattle.qm_core.specs.Standing.{sessions_of, was_opened, is_dropped, is_open, is_ready, waiting_of, last_start_of, turn_item, turn_of}
-use Rattle.qm_core.proofs.Pasts.{Begins, begun, both, differ, same, ready-open}
+use Rattle.qm_core.specs.Standing.{sessions_of, was_opened, is_open, is_ready, waiting_of, last_start_of, turn_item, turn_of}
+use Rattle.qm_core.proofs.Pasts.{Begins, begun, differ, same, ready-open}
 use Rattle.qm_core.proofs.Records.{untouched}
 
 -- the queue's first item is of the session whose turn it is

@@ -1,5 +1,5 @@
 -- The entries of one request, and those of one session (this project's own rule).
-use Rattle.std.specs.Prelude.{ℕ, ◌==◌, Bool, false, ◌&&◌, Option}
+use Rattle.std.specs.Prelude.{ℕ, ◌==◌, Bool, false, ◌&&◌}
 use Rattle.std.specs.Option.{option_and_then, option_map_or}
 use Rattle.qapi_types.specs.Lookups.{place_of, command_names}
 use Rattle.qm_core.specs.{Inputs.command_of, Verdicts.allows_out_of_band, declared.inputs.Input.Input, declared.world.World.World}

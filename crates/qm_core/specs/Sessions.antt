@@ -1,8 +1,8 @@
 -- What stands in a journal of each session (this project's own rule).
-use Rattle.std.specs.Prelude.{◌≡◌, ℕ, nat_le, Bool, false, not, if◌then◌else◌, ◌&&◌, ◌||◌, List, [], ◌∷◌, ◌++◌, length, map, Option, Some, None}
+use Rattle.std.specs.Prelude.{ℕ, nat_le, Bool, false, not, if◌then◌else◌, ◌&&◌, ◌||◌, List, [], ◌∷◌, ◌++◌, length, Option, Some, None}
 use Rattle.qm_caps.specs.declared.mode.Mode.{Mode, TheVariants.Negotiating}
 use Rattle.qm_queue.specs.declared.turns.TurnItem.{TurnItem}
-use Rattle.qm_core.specs.Standing.{sessions_of, is_dropped, is_ended, is_ready, admitted_of, mode_of, waiting_of, open_out_of_band_of, last_start_of, turn_item}
+use Rattle.qm_core.specs.Standing.{is_dropped, is_ended, is_ready, admitted_of, mode_of, waiting_of, open_out_of_band_of, last_start_of, turn_item}
 use Rattle.qm_core.specs.{Transcript.has_overrun, Transcript.untaken_of, Transcript.wire_of}
 use Rattle.qm_core.specs.declared.{TheConstants.MOST_UNTAKEN, entries.Entry.Entry, requests.Request.Request}
 

@@ -23,8 +23,8 @@ use crate::requests::Request;
 use crate::verdicts::{Class, Refusal, Verdict};
 use crate::world::{Setting, World};
 use qm_base::{NoMemory, Text};
-use qm_json::{Json, Members, has_member};
 use qm_caps::Mode;
+use qm_json::{Json, Members, has_member};
 use qm_plan::{Act, Plan, Store, StoreChangeList};
 use std::alloc::Global;
 

@@ -78,7 +78,7 @@ fn answered(
     plan: &Option<Plan>,
 ) -> Result<(), NoMemory>
     ensures ok { OnOk result (kept_of state.new ≡ record (told (kept_of state.old) line) {
-        mode = if is_negotiating state.old.mode && negotiates then mode_by plan.now else state.old.mode;
+      mode = if is_negotiating state.old.mode && negotiates then mode_by plan.now else state.old.mode;
     }) }
     ensures places { state.new.waiting ≡ state.old.waiting }
     ensures err { OnErr result (state.new ≡ state.old) }
@@ -146,7 +146,12 @@ impl Monitor {
             negotiates,
             stops,
         } = answer_to(
-            alloc, &self.world, &self.store, request, self.command, &plan,
+            alloc,
+            &self.world,
+            &self.store,
+            request,
+            self.command,
+            &plan,
         )?;
         let moment = moment.max(self.last_moment);
         let bytes = self.finish_room(session, number, &plan, &reply, moment)?;
@@ -213,9 +218,7 @@ impl Monitor {
             line,
             changes,
             ..
-        } = answer_to(
-            alloc, &self.world, &self.store, request, command, &plan,
-        )?;
+        } = answer_to(alloc, &self.world, &self.store, request, command, &plan)?;
         let moment = moment.max(self.last_moment);
         let bytes = self.oob_room(session, number, &plan, &reply, moment)?;
         let state = &mut self.sessions[session as usize - 1];

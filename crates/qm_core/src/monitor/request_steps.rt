@@ -55,9 +55,9 @@ fn take_in(
     requires opened { IsOpened request.session turns.old }
     requires document { document ≡ document_of request.input }
     ensures kept { kept_of state.new ≡ record (kept_of state.old) {
-        admitted = request.number;
-        waiting = if is_in_band lane then state.old.waiting.items ++ request ∷ [] else state.old.waiting.items;
-        open_out_of_band = if is_in_band lane then state.old.open_out_of_band else Some request;
+      admitted = request.number;
+      waiting = if is_in_band lane then state.old.waiting.items ++ request ∷ [] else state.old.waiting.items;
+      open_out_of_band = if is_in_band lane then state.old.open_out_of_band else Some request;
     } }
     ensures places { state.new.waiting.places ≡ state.old.waiting.places }
     ensures turns { turns.new ≡ (if is_in_band lane

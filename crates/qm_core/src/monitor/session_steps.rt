@@ -40,11 +40,7 @@ struct Opening {
 }
 
 /// One session more, and its place in the queue of turns. An error leaves both as they were.
-fn add(
-    sessions: &mut Vec<Session>,
-    turns: &mut TurnQueue,
-    session: Session,
-) -> Result<(), NoMemory>
+fn add(sessions: &mut Vec<Session>, turns: &mut TurnQueue, session: Session) -> Result<(), NoMemory>
     ensures sessions { OnOk result (sessions.new.items ≡ sessions.old.items ++ session ∷ []) }
     ensures turns { OnOk result (turns.new ≡ turns.old ++ None ∷ []) }
     ensures err { OnErr result ((sessions.new.items ≡ sessions.old.items) × (turns.new ≡ turns.old)) }

@@ -1,11 +1,10 @@
-use Rattle.std.proofs.Common.{◌≡◌, ◌∷◌, ◌∙◌, ◌++◌, ℕ, ◌+◌, ◌-◌, ◌<◌, ◌≤◌, [], List, true, length, cond, Option, Some, None, ap, arith, refl, sym}
+use Rattle.std.proofs.Common.{◌≡◌, ◌∷◌, ◌∙◌, ◌++◌, ℕ, ◌+◌, ◌-◌, [], cond, Option, Some, ap, arith, refl, sym}
 use Rattle.std.proofs.Math.ListN.{set}
-use Rattle.qm_caps.specs.{Lanes.is_in_band, Modes.bound_of, declared.mode.Mode.Mode}
-use Rattle.qm_queue.specs.declared.{ring.TheConstants.PLACES, turns.TurnItem.TurnItem}
+use Rattle.qm_caps.specs.{Lanes.is_in_band}
 use Rattle.qm_core.specs.{Kept.IsPlaced, Kept.has_places, Kept.kept_of, Kept.view_of, Legal.past_of}
 use Rattle.qm_core.specs.Next.{Admit}
 use Rattle.qm_core.specs.Sessions.{Kept, session_at}
-use Rattle.qm_core.specs.Standing.{admitted_of, next_request}
+use Rattle.qm_core.specs.Standing.{admitted_of}
 use Rattle.qm_core.specs.declared.entries.Entry.TheVariants as entry
 use Rattle.qm_core.specs.declared.inputs.Input.{Input}
 use Rattle.qm_core.specs.declared.requests.Request.{Request}
@@ -61,21 +60,21 @@ invariant_of-self c =
     let e = entry.Admit s (old.admitted + 1) lane input in
     let made_request : Input → Kept → Request = λ i k. record { session = s; number = k.admitted + 1; mode = k.mode; input = i } in
     let here : kept_of c.take_in-call.new.state ≡ session_at (e ∷ past) s =
-        made.kept ∙ ap (λ (i : Input). record (kept_of old) {
-          admitted = old.admitted + 1;
-          waiting = cond (is_in_band lane) (old.waiting.items ++ made_request i (kept_of old) ∷ []) old.waiting.items;
-          open_out_of_band = cond (is_in_band lane) old.open_out_of_band (Some (made_request i (kept_of old)));
-        }) given.waiting
-        ∙ ap (λ (k : Kept). record k {
-          admitted = k.admitted + 1;
-          waiting = cond (is_in_band lane) (k.waiting ++ made_request input k ∷ []) k.waiting;
-          open_out_of_band = cond (is_in_band lane) k.open_out_of_band (Some (made_request input k));
-        }) state
-        ∙ sym (admit-here s (old.admitted + 1) lane input past (ap (λ (n : ℕ). n + 1) count)) in
+    made.kept ∙ ap (λ (i : Input). record (kept_of old) {
+      admitted = old.admitted + 1;
+      waiting = cond (is_in_band lane) (old.waiting.items ++ made_request i (kept_of old) ∷ []) old.waiting.items;
+      open_out_of_band = cond (is_in_band lane) old.open_out_of_band (Some (made_request i (kept_of old)));
+    }) given.waiting
+    ∙ ap (λ (k : Kept). record k {
+      admitted = k.admitted + 1;
+      waiting = cond (is_in_band lane) (k.waiting ++ made_request input k ∷ []) k.waiting;
+      open_out_of_band = cond (is_in_band lane) k.open_out_of_band (Some (made_request input k));
+    }) state
+    ∙ sym (admit-here s (old.admitted + 1) lane input past (ap (λ (n : ℕ). n + 1) count)) in
     let places = places-kept old c.take_in-call.new.state (ap (λ (k : Kept). k.dropped) made.kept) made.places
-        (ap has_places c.index_mut-state.ensures.value ∙ places-at past s c.self.inside.sessions.items _ sound.legal.ordered sound.sessions known) in
+    (ap has_places c.index_mut-state.ensures.value ∙ places-at past s c.self.inside.sessions.items _ sound.legal.ordered sound.sessions known) in
     let turns = made.turns ∙ ap (λ (n : Option ℕ). cond (is_in_band lane) (set c.self.inside.turns (s - 1) (Some record { session = s; last_start = n })) c.self.inside.turns) (ap (λ (k : Kept). k.last_start) state)
-        ∙ admit-turns past s (old.admitted + 1) lane input c.self.inside.turns sound.legal.ordered sound.turns (is-open past s ok.«open») in
+    ∙ admit-turns past s (old.admitted + 1) lane input c.self.inside.turns sound.legal.ordered sound.turns (is-open past s ok.«open») in
     let placed : IsPlaced (view_of c.self.inside) e c.in_ok-lane.field-0.bytes = rw (same, sym count) at ok.placed in
     after_entry c.self.inside _ e c.in_ok-lane.field-0.bytes sound record {
       is_open = is-open past s ok.«open»;

@@ -1,5 +1,5 @@
-use Rattle.std.proofs.Common.{◌≡◌, ◌∷◌, ◌∙◌, ℕ, ◌+◌, ◌-◌, [], None, true, ap, arith, refl, sym}
-use Rattle.qm_core.specs.Kept.{has_places, kept_of}
+use Rattle.std.proofs.Common.{◌≡◌, ◌∷◌, ◌∙◌, [], None, true, ap, arith, refl, sym}
+use Rattle.qm_core.specs.Kept.{kept_of}
 use Rattle.qm_core.specs.Legal.{past_of}
 use Rattle.qm_core.specs.Sessions.{Kept, session_at}
 use Rattle.qm_core.specs.declared.entries.Entry.TheVariants.{Drop}
@@ -35,7 +35,7 @@ invariant_of-self c =
     let state : kept_of c.index_mut-state.result.now ≡ session_at past s = ap kept_of c.index_mut-state.ensures.value ∙ kept-at past s c.self.inside.sessions.items _ sound.legal.ordered sound.sessions known in
     let new : Session = record c.index_mut-state.result.now { dropped = true; waiting = c.give_up.new.self; open_out_of_band = None } in
     let here : kept_of new ≡ session_at (e ∷ past) s =
-        rw c.give_up.ensures (ap (λ (k : Kept). record k { dropped = true; waiting = []; open_out_of_band = None }) state) ∙ sym (drop-here s c.args.cause past) in
+    rw c.give_up.ensures (ap (λ (k : Kept). record k { dropped = true; waiting = []; open_out_of_band = None }) state) ∙ sym (drop-here s c.args.cause past) in
     let less = counts-drop past s c.args.cause sound.legal.ordered (is-open past s ok.«open») in
     after_entry c.self.inside _ e _ sound record { is_open = is-open past s ok.«open»; holds = ok.holds } tt (drop-placed c.self.inside s _ c.args.cause sound ok.«open» (rw c.len.ensures at c.drop_size-bytes.ensures.exact) c.drop_size-bytes.ensures.kept) record {
       world = refl;

@@ -1,13 +1,13 @@
-use Rattle.std.proofs.Common.{◌≡◌, ◌∷◌, ◌∙◌, ℕ, ◌<◌, ◌^◌, Bool, true, ◌&&◌, ◌||◌, List, cond, codes, Some, None, ap, arith, refl, rules, subst, sym}
+use Rattle.std.proofs.Common.{◌≡◌, ◌∷◌, ◌∙◌, ℕ, Bool, true, ◌&&◌, List, cond, codes, Some, None, ap, arith, refl, rules, subst, sym}
 use Rattle.std.specs.Result.{result_err}
 use Rattle.qm_json.specs.Printing.{printed}
 use Rattle.qm_caps.specs.Modes.{is_negotiating}
-use Rattle.qm_core.specs.{Kept.has_places, Kept.kept_of, Legal.past_of, Planned.mode_by, Planned.planned_of, Replies.reply_to}
+use Rattle.qm_core.specs.{Kept.has_places, Kept.kept_of, Legal.past_of, Planned.mode_by}
 use Rattle.qm_core.specs.Next.{Finish, entry_of, full_refusal, is_running}
 use Rattle.qm_core.specs.Sessions.{Kept, session_at, told}
 use Rattle.qm_core.specs.Standing.{answers, running_of, was_opened}
 use Rattle.qm_core.specs.declared.entries.{Entry.TheVariants.Done, StepFault.TheVariants.NotRunning}
-use Rattle.qm_core.specs.declared.requests.{Request.Request, RequestName.RequestName}
+use Rattle.qm_core.specs.declared.requests.{RequestName.RequestName}
 use Rattle.qm_core.proofs.Keeping.{after_entry, kept-at, last-moment, may-come, next-entry, next-refused, not-refused, places-at, places-kept, sessions-changed, sessions-count, told-dropped}
 use Rattle.qm_core.proofs.Pasts.{opened-within, running-opened}
 use Rattle.qm_core.proofs.Records.{done-here, done-other}
@@ -63,10 +63,10 @@ invariant_of-self-2 c =
     let mode : opens ≡ answers (codes "qmp_capabilities") (running_of past) reply = rw (ok.runs, made.reply) made.mode in
     let told_of : List ℕ → Bool → Kept → Kept = λ l b r. record (told r l) { mode = cond (is_negotiating r.mode && b) (mode_by plan) r.mode } in
     let here : kept_of new ≡ session_at (e ∷ past) s =
-        c.in_ok-answered.ensures.ok ∙ ap (λ (r : Kept). told_of line opens r) state ∙ ap (λ (l : List ℕ). told_of l opens (session_at past s)) wire ∙ ap (λ (b : Bool). told_of (printed reply) b (session_at past s)) mode
-        ∙ sym (done-here s k plan reply last past sound.legal.ordered known) in
+    c.in_ok-answered.ensures.ok ∙ ap (λ (r : Kept). told_of line opens r) state ∙ ap (λ (l : List ℕ). told_of l opens (session_at past s)) wire ∙ ap (λ (b : Bool). told_of (printed reply) b (session_at past s)) mode
+    ∙ sym (done-here s k plan reply last past sound.legal.ordered known) in
     let places = places-kept old new (ap (λ (r : Kept). r.dropped) c.in_ok-answered.ensures.ok ∙ told-dropped (kept_of old) line) (ap (λ w. w.places) c.in_ok-answered.ensures.places)
-        (ap has_places c.index_mut-state.ensures.value ∙ places-at past s c.self.inside.sessions.items _ sound.legal.ordered sound.sessions known) in
+    (ap has_places c.index_mut-state.ensures.value ∙ places-at past s c.self.inside.sessions.items _ sound.legal.ordered sound.sessions known) in
     let stopped : c.in_ok-reply.field-0.stops ≡ answers (codes "quit") (running_of past) reply = rw (ok.runs, made.reply) made.stop in
     after_entry c.self.inside _ e c.in_ok-bytes.bytes sound record {
       running = rw ok.runs (ap (λ (q : RequestName). Some q) (rw (ok.named.0, ok.named.1) refl));

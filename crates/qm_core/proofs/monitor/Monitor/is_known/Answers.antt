@@ -1,7 +1,5 @@
-use Rattle.std.proofs.Common.{◌≡◌, ◌∙◌, false, nat_le, nat_lt, ◌&&◌, sym, arith}
+use Rattle.std.proofs.Common.{◌∙◌, sym, arith}
 use Rattle.std.proofs.lemmas.Bool.Decides.{nat_tests}
-use Rattle.qm_core.specs.Legal.{past_of}
-use Rattle.qm_core.specs.Standing.{was_opened}
 use Rattle.qm_core.proofs.Keeping.{sessions-count}
 use Rattle.qm_core.proofs.Pasts.{opened-is}
 use Rattle.qm_core.proofs.Records.{untouched}

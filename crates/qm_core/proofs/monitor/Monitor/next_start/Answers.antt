@@ -1,7 +1,7 @@
 use Rattle.std.proofs.Common.{◌≡◌, ◌∙◌, ℕ, Option, Some, None, List, slice_get, ap, sym}
 use Rattle.std.specs.Option.{option_and_then}
 use Rattle.qm_queue.specs.{Turns.turn_of as first_turn, Turns.waiting_in, declared.turns.TurnItem.TurnItem}
-use Rattle.qm_core.specs.{Kept.kept_of, Legal.past_of, Sessions.Kept, Standing.named_of, Standing.turn_of, Standing.waiting_of, declared.requests.Request.Request}
+use Rattle.qm_core.specs.{Kept.kept_of, Legal.past_of, Sessions.Kept, Standing.named_of, Standing.turn_of, Standing.waiting_of}
 use Rattle.qm_core.proofs.{Keeping.kept-at, Pasts.has-turn, Pasts.open_opened, Pasts.ready-open, Turns.turn-first}
 use Rattle.qm_core.proofs.monitor.Monitor.next_start.Goals as goal
 

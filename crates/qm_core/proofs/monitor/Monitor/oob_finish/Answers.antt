@@ -1,4 +1,4 @@
-use Rattle.std.proofs.Common.{◌≡◌, ◌∷◌, ◌∙◌, ℕ, ◌<◌, ◌^◌, Bool, true, List, cond, Some, None, ap, arith, refl, rules, sym}
+use Rattle.std.proofs.Common.{◌≡◌, ◌∷◌, ◌∙◌, ℕ, List, Some, None, ap, refl, rules, sym}
 use Rattle.std.specs.Result.{result_err}
 use Rattle.qm_json.specs.Printing.{printed}
 use Rattle.qm_core.specs.{Kept.has_places, Kept.kept_of, Legal.past_of}
@@ -40,10 +40,10 @@ invariant_of-self-2 c =
     let wire : line ≡ printed reply = made.line ∙ ap printed (sym made.reply) in
     let sent_of : List ℕ → Kept → Kept = λ l r. record (sent r l) { open_out_of_band = None } in
     let here : kept_of new ≡ session_at (e ∷ past) s =
-        ap (λ (r : Kept). record r { open_out_of_band = None }) c.in_ok-send.ensures.ok ∙ ap (λ (r : Kept). sent_of line r) state ∙ ap (λ (l : List ℕ). sent_of l (session_at past s)) wire
-        ∙ sym (oob-here s k plan reply last past sound.legal.ordered (is-open past s ok.«open»)) in
+    ap (λ (r : Kept). record r { open_out_of_band = None }) c.in_ok-send.ensures.ok ∙ ap (λ (r : Kept). sent_of line r) state ∙ ap (λ (l : List ℕ). sent_of l (session_at past s)) wire
+    ∙ sym (oob-here s k plan reply last past sound.legal.ordered (is-open past s ok.«open»)) in
     let places = places-kept old new (ap (λ (r : Kept). r.dropped) c.in_ok-send.ensures.ok) (ap (λ w. w.places) c.in_ok-send.ensures.places)
-        (ap has_places c.index_mut-state.ensures.value ∙ places-at past s c.self.inside.sessions.items _ sound.legal.ordered sound.sessions known) in
+    (ap has_places c.index_mut-state.ensures.value ∙ places-at past s c.self.inside.sessions.items _ sound.legal.ordered sound.sessions known) in
     after_entry c.self.inside _ e c.in_ok-bytes.bytes sound record {
       is_open = is-open past s ok.«open»;
       request = rw ok.opens (ap (λ (q : RequestName). Some q) (rw (ok.named.0, ok.named.1) refl));

@@ -7,7 +7,6 @@ use Rattle.qm_core.specs.Legal.{past_of}
 use Rattle.qm_core.specs.Standing.{sessions_of}
 use Rattle.qm_core.specs.Sessions.{Kept, fresh, session_at, sent, turn_at}
 use Rattle.qm_core.specs.declared.entries.Entry.TheVariants.{Open}
-use Rattle.qm_core.specs.declared.sessions.Session.{Session}
 use Rattle.qm_core.proofs.Counts.{counts-open}
 use Rattle.qm_core.proofs.Keeping.{after_entry, has-places, sessions-more}
 use Rattle.qm_core.proofs.Lists.{list-more}
@@ -26,11 +25,11 @@ invariant_of-self-2 c =
     let new = c.send.new.self in
     let line : c.in_ok-line.field-0 ≡ printed greeting_value = search rules in
     let here : kept_of new ≡ session_at (Open s ∷ past) s =
-        c.in_ok-send.ensures.ok ∙ ap (λ (k : Kept). sent k c.in_ok-line.field-0) c.in_ok-state.ensures.kept ∙ ap (λ (l : List ℕ). sent fresh l) line ∙ sym (open-here s past sound.legal.ordered none) in
+    c.in_ok-send.ensures.ok ∙ ap (λ (k : Kept). sent k c.in_ok-line.field-0) c.in_ok-state.ensures.kept ∙ ap (λ (l : List ℕ). sent fresh l) line ∙ sym (open-here s past sound.legal.ordered none) in
     let places = has-places new (search rules) in
     let turns : c.self.inside.turns ++ None ∷ [] ≡ map (turn_at (Open s ∷ past)) (sessions_of past ++ s ∷ []) =
-        ap (λ (l : List (Option TurnItem)). l ++ None ∷ []) sound.turns ∙ ap (λ (i : Option TurnItem). map (turn_at past) (sessions_of past) ++ i ∷ []) (sym (open-turn s past sound.legal.ordered none))
-        ∙ list-more (turn_at past) (turn_at (Open s ∷ past)) past s sound.legal.ordered ok.next (λ t. open-turn-other s t past) in
+    ap (λ (l : List (Option TurnItem)). l ++ None ∷ []) sound.turns ∙ ap (λ (i : Option TurnItem). map (turn_at past) (sessions_of past) ++ i ∷ []) (sym (open-turn s past sound.legal.ordered none))
+    ∙ list-more (turn_at past) (turn_at (Open s ∷ past)) past s sound.legal.ordered ok.next (λ t. open-turn-other s t past) in
     after_entry c.self.inside _ (Open s) _ sound record { going = ok.going; next = ok.next; few = ok.few } tt ok.placed record {
       world = refl;
       limits = refl;

@@ -1,4 +1,3 @@
-use Rattle.std.proofs.Common.{rules}
 use Rattle.qm_core.proofs.Counts.{few-open}
 use Rattle.qm_core.proofs.monitor.Monitor.open_count.Goals as goal
 

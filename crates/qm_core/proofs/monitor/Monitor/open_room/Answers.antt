@@ -11,5 +11,5 @@ returns c =
     let sound = c.self.invariant in
     let next = rw (← c.self.view_is) at c.requires.next in
     let opened : c.self.inside.open_count + 1 ≡ open_count_of (Open c.args.session ∷ past_of c.args.self.now.journal) =
-        rw (← c.self.view_is) (ap (λ (n : ℕ). n + 1) sound.open_count ∙ sym (counts-open _ c.args.session sound.legal.ordered next)) in
+    rw (← c.self.view_is) (ap (λ (n : ℕ). n + 1) sound.open_count ∙ sym (counts-open _ c.args.session sound.legal.ordered next)) in
     placed c.args.self.now (Open c.args.session) _ _ _ _ found.short c.next_number-at.ensures c.open_size.ensures opened found.fault found.value found.room

@@ -1,7 +1,4 @@
-use Rattle.std.proofs.Common.{◌≤◌, ℕ, length, arith}
-use Rattle.qm_core.specs.Legal.{past_of}
-use Rattle.qm_core.specs.Standing.{sessions_of}
-use Rattle.qm_core.specs.declared.TheConstants.{MOST_SESSIONS}
+use Rattle.std.proofs.Common.{arith}
 use Rattle.qm_core.proofs.Keeping.{sessions-count}
 use Rattle.qm_core.proofs.Pasts.{few-sessions}
 use Rattle.qm_core.proofs.monitor.Monitor.opened.Goals as goal

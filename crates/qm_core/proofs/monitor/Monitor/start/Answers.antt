@@ -1,13 +1,11 @@
-use Rattle.std.proofs.Common.{◌≡◌, ◌∷◌, ◌∙◌, ℕ, ◌+◌, ◌<◌, ◌==◌, [], List, drop, length, cond, Option, Some, None, option_map, slice_get, ap, arith, refl, sym}
+use Rattle.std.proofs.Common.{◌≡◌, ◌∷◌, ◌∙◌, ℕ, ◌+◌, ◌==◌, List, drop, length, cond, Option, Some, None, option_map, slice_get, ap, arith, refl, sym}
 use Rattle.std.proofs.lemmas.List.{length-reverse}
-use Rattle.qm_queue.specs.declared.turns.TurnItem.{TurnItem}
 use Rattle.qm_core.specs.{Kept.kept_of, Kept.has_places, Legal.past_of, Order.MayStart, Planned.call_of, Planned.call_with, Planned.command_in, Planned.started_of}
 use Rattle.qm_core.specs.Sessions.{Kept, session_at, turn_at}
-use Rattle.qm_core.specs.Standing.{starting_of}
 use Rattle.qm_core.specs.declared.entries.Entry.TheVariants.{Start}
 use Rattle.qm_core.specs.declared.requests.Request.{Request}
 use Rattle.qm_core.proofs.Keeping.{after_entry, kept-at, places-at, places-kept, sessions-changed, sessions-count, turns-changed, turns-opened}
-use Rattle.qm_core.proofs.Pasts.{Begins, begins, begun, opened-within, start-opened}
+use Rattle.qm_core.proofs.Pasts.{begins, begun, opened-within, start-opened}
 use Rattle.qm_core.proofs.Records.{start-here, start-other}
 use Rattle.qm_core.proofs.Turns.{item_after, start-turn, start-turn-other}
 use Rattle.qm_core.proofs.monitor.Monitor.start.Goals as goal
@@ -70,14 +68,14 @@ invariant_of-self c =
     let at : c.len-at.result + 1 ≡ length past + 1 = omega (arith, c.len-at.ensures, length-reverse c.self.inside.journal.items) in
     let request : Some c.begin-request.result.request ≡ Some b.request = made.request ∙ ap (λ (l : List Request). slice_get l 0) waits in
     let here : kept_of c.begin-request.new.state ≡ session_at (Start s k ∷ past) s =
-        made.kept ∙ ap (λ (l : List Request). record (kept_of old) { waiting = drop 1 l; last_start = Some (c.len-at.result + 1) }) waits
-        ∙ ap (λ (r : Kept). record r { waiting = b.others; last_start = Some (c.len-at.result + 1) }) state
-        ∙ ap (λ (n : ℕ). record (session_at past s) { waiting = b.others; last_start = Some n }) at ∙ sym (start-here s k past b sound.legal.ordered) in
+    made.kept ∙ ap (λ (l : List Request). record (kept_of old) { waiting = drop 1 l; last_start = Some (c.len-at.result + 1) }) waits
+    ∙ ap (λ (r : Kept). record r { waiting = b.others; last_start = Some (c.len-at.result + 1) }) state
+    ∙ ap (λ (n : ℕ). record (session_at past s) { waiting = b.others; last_start = Some n }) at ∙ sym (start-here s k past b sound.legal.ordered) in
     let places = places-kept old c.begin-request.new.state (ap (λ (r : Kept). r.dropped) made.kept) made.places
-        (ap has_places c.index_mut-state.ensures.value ∙ places-at past s c.self.inside.sessions.items _ sound.legal.ordered sound.sessions known) in
+    (ap has_places c.index_mut-state.ensures.value ∙ places-at past s c.self.inside.sessions.items _ sound.legal.ordered sound.sessions known) in
     let item : cond (length (drop 1 old.waiting.items) == 0) None (Some (item_after s (c.len-at.result + 1))) ≡ turn_at (Start s k ∷ past) s =
-        ap (λ (l : List Request). cond (length (drop 1 l) == 0) None (Some (item_after s (c.len-at.result + 1)))) waits
-        ∙ ap (λ (n : ℕ). cond (length b.others == 0) None (Some (item_after s n))) at ∙ sym (start-turn s k past b sound.legal.ordered) in
+    ap (λ (l : List Request). cond (length (drop 1 l) == 0) None (Some (item_after s (c.len-at.result + 1)))) waits
+    ∙ ap (λ (n : ℕ). cond (length b.others == 0) None (Some (item_after s n))) at ∙ sym (start-turn s k past b sound.legal.ordered) in
     let called = rw c.world.ensures at c.command-command.ensures in
     after_entry c.self.inside _ (Start s k) c.in_ok-name.field-0.bytes sound may tt ok.placed record {
       world = refl;
