@@ -9,7 +9,7 @@ ghost use Rattle.qm_admit.specs.Walks.{Tells, inners, chosen_types, value_misfit
 
 use crate::alternatives::{alternative, sort_of};
 use crate::choices::chosen;
-use crate::members::{block_of, own_members, place_at};
+use crate::members::{own_members, place_at};
 use crate::path::{PathList, PathStep};
 use crate::plain::{bool_fault, int_fault, null_fault, num_fault, other_fault, text_fault};
 use crate::unexpected::unexpected;
@@ -178,7 +178,7 @@ fn walk_members(
     requires path { path.old ≡ [] }
     ensures { Tells (members_misfit (inners schema.now.kinds given.now) type_id 0 members.now) result path.new }
 {
-    let mut block = block_of(schema, type_id, given, 0);
+    let mut block = None;
     for (i, member) in members.iter().enumerate() {
         let found = place_at(schema, type_id, given, &mut block, i);
         match walk_member(schema, type_id, i as u32, member, given, found, path) {

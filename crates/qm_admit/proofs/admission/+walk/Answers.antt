@@ -5,7 +5,7 @@ use Rattle.qm_json.specs.declared.value.Json.{out-Json}
 use Rattle.qm_json.specs.declared.value.Json.TheOpen as layer
 use Rattle.qm_json.specs.declared.value.Json.TheViews.{outs-Null, outs-Bool, outs-Int, outs-Num, outs-Str}
 use Rattle.qm_admit.specs.Misfits.{members_misfit, types_misfit, choices_from}
-use Rattle.qm_admit.specs.Walks.{Tells, asked, inners, chosen_types, item_list_misfit, place_of_name}
+use Rattle.qm_admit.specs.Walks.{Tells, asked, inners, chosen_types, item_list_misfit}
 use Rattle.qm_admit.proofs.Steps.{no-way, walked-some, value-once, value-array, value-object, array-walked, array-other, object-other, object-stops, object-walked, item-passes, item-stops, member-passes, member-stops, choice-passes, choice-stops}
 use Rattle.qm_admit.proofs.BlockLaws.{own-place}
 use Rattle.qm_admit.proofs.admission.+walk.Goals as goal
