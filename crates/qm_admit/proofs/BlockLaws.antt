@@ -1,5 +1,5 @@
 -- Given members are found by the positions of their names in a type.
-use Rattle.std.proofs.Common.{◌≡◌, ◌<◌, ◌≤◌, ◌+◌, ◌-◌, ℕ, zero, suc, Bool, true, false, cond, List, [], ◌∷◌, map, length, drop, get_or, Option, Some, None, IfSome, refl, ap, sym, ◌∙◌, subst, arith, bytes_eq}
+use Rattle.std.proofs.Common.{◌≡◌, ◌<◌, ◌≤◌, ◌+◌, ◌-◌, ℕ, zero, suc, Bool, true, false, cond, List, [], ◌∷◌, map, length, drop, get_or, Option, Some, None, IfSome, position, refl, ap, sym, ◌∙◌, subst, arith, bytes_eq}
 use Rattle.std.specs.List.{position_from}
 use Rattle.std.proofs.lemmas.{Slice.Eq.bytes_eq-Decides, Bool.Decides.nat_tests}
 use Rattle.std.proofs.lemmas.List.{length-map, length-set, drop_all, get_or-set_same, get_or-set_other, get_or-map}
@@ -9,7 +9,7 @@ use Rattle.qapi_types.specs.declared.{kind.MemberDef.MemberDef, parts.Parts.Part
 use Rattle.qapi_types.specs.{Choices.AreApart, Choices.times, Choices.names_of, Choices.stays, Goodness.IsGood, Lookups.place_of}
 use Rattle.qapi_types.specs.Types.{kind_of, member_names}
 use Rattle.qapi_types.proofs.{ChoiceLaws.itself, FaultLaws.names-at}
-use Rattle.qm_admit.specs.Blocks.{ArePlaced, noted, slot_of}
+use Rattle.qm_admit.specs.Blocks.{ArePlaced, Covers, noted, slot_of}
 use Rattle.qm_admit.specs.Walks.{place_of_name}
 use Rattle.qm_admit.proofs.Positions.{front, from-zero, position-within}
 
@@ -90,6 +90,19 @@ all-kept given names start i places z long kept = record { long = long; each = �
   where
     at-zero : (i : ℕ) → i ≤ 0 → i ≡ 0
     at-zero i z = omega arith
+
+-- the place of one that is covered
+pub covered-place : (given : List Member) (names : List (List ℕ)) (start position : ℕ) (places : List (Option ℕ)) (answer : Option ℕ) → ArePlaced given names start places → Covers start position → position < length names →
+    answer ≡ get_or places (position - start) None → answer ≡ place_of_name given (get_or names position [])
+covered-place given names start position places answer a c l e =
+    let s : start + (position - start) ≡ position = back start position c.from in
+    e ∙ a.each (position - start) (near start position c) (subst (λ n. n < length names) (sym s) l) ∙ ap (λ n. place_of_name given (get_or names n [])) s
+  where
+    back : (start position : ℕ) → start ≤ position → start + (position - start) ≡ position
+    back start position l = omega arith
+
+    near : (start position : ℕ) → Covers start position → position - start < 256
+    near start position c = omega (arith, c.from, c.below)
 
 pub place-within : (given : List Member) (name : List ℕ) (answer : Option ℕ) → answer ≡ place_of_name given name → IfSome answer (λ i. i < length given)
 place-within given name answer e = position-within (λ (m : Member). bytes_eq m.name name) given answer (e ∙ sym (from-zero (λ (m : Member). bytes_eq m.name name) given))

@@ -1,5 +1,5 @@
 -- The places of given members for 256 of a type's members. It serves private functions.
-use Rattle.std.specs.Prelude.{◌≡◌, ◌<◌, ◌+◌, ◌-◌, ℕ, List, [], length, cond, nat_lt, Option, Some, None, slice_index_or, slice_set}
+use Rattle.std.specs.Prelude.{◌≡◌, ◌<◌, ◌≤◌, ◌+◌, ◌-◌, ℕ, List, [], length, cond, nat_lt, Option, Some, None, slice_index_or, slice_set}
 use Rattle.qm_json.specs.declared.value.{Member.Member}
 use Rattle.qm_admit.specs.Walks.{place_of_name}
 
@@ -7,6 +7,11 @@ use Rattle.qm_admit.specs.Walks.{place_of_name}
 pub record ArePlaced (given : List Member) (names : List (List ℕ)) (start : ℕ) (places : List (Option ℕ)) : Type 0 where
   pub long : length places ≡ 256
   pub each : (k : ℕ) → k < 256 → start + k < length names → slice_index_or places k None ≡ place_of_name given (slice_index_or names (start + k) [])
+
+-- the position is among the 256 from the start on
+pub record Covers (start position : ℕ) : Type 0 where
+  pub from : start ≤ position
+  pub below : position < start + 256
 
 abbrev pub noted : List (Option ℕ) → Option ℕ → ℕ → List (Option ℕ)
 noted places None position = places

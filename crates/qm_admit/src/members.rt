@@ -3,7 +3,8 @@ ghost use Rattle.std.specs.List.{All};
 ghost use Rattle.qapi_types.specs.Lookups.{place_of};
 ghost use Rattle.qapi_types.specs.Types.{kind_of, members_of, member_names};
 ghost use Rattle.qapi_types.specs.declared.kind.MemberDef.{MemberDef as TypeMember};
-ghost use Rattle.qm_admit.specs.Blocks.{ArePlaced, noted, slot_of};
+ghost use Rattle.qm_admit.specs.declared.members.Block.{Block as Places};
+ghost use Rattle.qm_admit.specs.Blocks.{ArePlaced, Covers, noted, slot_of};
 ghost use Rattle.qm_admit.specs.Walks.{place_of_name};
 
 use qapi_types::{MemberDef, Schema};
@@ -11,6 +12,11 @@ use qm_json::Member;
 
 /// Among so many given members a name is found by going through them, without a block.
 const FEW: usize = 8;
+
+/// Whether the given members are so few that no block is made.
+pub fn are_few(given: &[Member]) -> bool {
+    given.len() <= FEW
+}
 
 /// The positions of the given members of 256 of a type's members, from one on.
 #[derive(Clone, Copy)]
@@ -66,6 +72,38 @@ pub fn block_of(schema: &Schema, type_id: u32, given: &[Member], start: usize) -
     Block { start, places }
 }
 
+/// Sees that the type's member at the position is one of those in the block.
+fn cover(schema: &Schema, type_id: u32, given: &[Member], block: &mut Block, position: usize)
+    requires id { type_id < length schema.now.kinds }
+    requires placed { ArePlaced given.now (member_names (kind_of schema.now.kinds type_id)) block.old.start block.old.places }
+    ensures covers { Covers block.new.start position }
+    ensures placed { ArePlaced given.now (member_names (kind_of schema.now.kinds type_id)) block.new.start block.new.places }
+{
+    if block.start <= position && position - block.start < 256 {
+        return;
+    }
+    *block = block_of(schema, type_id, given, position);
+}
+
+/// What `place_at` answers, by a block.
+#[inline(never)]
+fn place_in_block(
+    schema: &Schema,
+    type_id: u32,
+    given: &[Member],
+    block: &mut Block,
+    position: usize,
+) -> Option<usize>
+    requires id { type_id < length schema.now.kinds }
+    requires position { position < length (member_names (kind_of schema.now.kinds type_id)) }
+    requires placed { ArePlaced given.now (member_names (kind_of schema.now.kinds type_id)) block.old.start block.old.places }
+    ensures value { result ≡ place_of_name given.now (slice_index_or (member_names (kind_of schema.now.kinds type_id)) position []) }
+    ensures placed { ArePlaced given.now (member_names (kind_of schema.now.kinds type_id)) block.new.start block.new.places }
+{
+    cover(schema, type_id, given, block, position);
+    block.places[position - block.start]
+}
+
 /// The position of the first given member of the name.
 fn place_of_name(given: &[Member], name: &[u8]) -> Option<usize>
     ensures { result ≡ place_of_name given.now name.now }
@@ -73,53 +111,27 @@ fn place_of_name(given: &[Member], name: &[u8]) -> Option<usize>
     given.iter().position(|m| m.name.as_slice() == name)
 }
 
-/// What `place_at` answers, by the block, which is made anew where the position is none of its own.
-/// Each object would pay for the room of a block here, if this stood in its caller's frame.
-#[inline(never)]
-fn place_in_block(
-    schema: &Schema,
-    type_id: u32,
-    given: &[Member],
-    block: &mut Option<Block>,
-    position: usize,
-) -> Option<usize>
-    requires id { type_id < length schema.now.kinds }
-    requires position { position < length (member_names (kind_of schema.now.kinds type_id)) }
-    requires placed { IfSome block.old (λ b. ArePlaced given.now (member_names (kind_of schema.now.kinds type_id)) b.start b.places) }
-    ensures value { result ≡ place_of_name given.now (slice_index_or (member_names (kind_of schema.now.kinds type_id)) position []) }
-    ensures placed { IfSome block.new (λ b. ArePlaced given.now (member_names (kind_of schema.now.kinds type_id)) b.start b.places) }
-{
-    match block {
-        Some(b) if b.start <= position && position - b.start < 256 => b.places[position - b.start],
-        _ => {
-            let fresh = block_of(schema, type_id, given, position);
-            let place = fresh.places[0];
-            *block = Some(fresh);
-            place
-        }
-    }
-}
-
-/// The position of the first given member of the name of the type's member at the position.
+/// The position of the first given member of the name of the type's member at the position: by the
+/// first block, and where there is none by going through the given members.
 pub fn place_at(
     schema: &Schema,
     type_id: u32,
     given: &[Member],
-    block: &mut Option<Block>,
+    blocks: &mut [Block],
     position: usize,
 ) -> Option<usize>
     requires id { type_id < length schema.now.kinds }
     requires position { position < length (member_names (kind_of schema.now.kinds type_id)) }
-    requires placed { IfSome block.old (λ b. ArePlaced given.now (member_names (kind_of schema.now.kinds type_id)) b.start b.places) }
+    requires placed { All (λ (b : Places). ArePlaced given.now (member_names (kind_of schema.now.kinds type_id)) b.start b.places) blocks.old }
     ensures value { result ≡ place_of_name given.now (slice_index_or (member_names (kind_of schema.now.kinds type_id)) position []) }
     ensures within { IfSome result (λ i. i < length given.now) }
-    ensures placed { IfSome block.new (λ b. ArePlaced given.now (member_names (kind_of schema.now.kinds type_id)) b.start b.places) }
+    ensures placed { All (λ (b : Places). ArePlaced given.now (member_names (kind_of schema.now.kinds type_id)) b.start b.places) blocks.new }
 {
-    if given.len() <= FEW {
+    if blocks.is_empty() {
         let name = own_members(schema, type_id)[position].name.as_slice();
         return place_of_name(given, name);
     }
-    place_in_block(schema, type_id, given, block, position)
+    place_in_block(schema, type_id, given, &mut blocks[0], position)
 }
 
 /// The members of the type.
