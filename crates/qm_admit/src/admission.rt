@@ -11,7 +11,7 @@ ghost use Rattle.qm_admit.specs.Walks.{Tells, inners, chosen_types, value_misfit
 
 use crate::alternatives::{alternative, sort_of};
 use crate::choices::chosen;
-use crate::members::{Block, are_few, block_of, own_members, place_at};
+use crate::members::{Block, FEW, block_of, own_members, place_at};
 use crate::path::{PathList, PathStep};
 use crate::plain::{bool_fault, int_fault, null_fault, num_fault, other_fault, text_fault};
 use crate::unexpected::unexpected;
@@ -172,7 +172,7 @@ fn walk_own(schema: &Schema, type_id: u32, given: &[Member], path: &mut PathList
     requires path { path.old ≡ [] }
     ensures { Tells (members_misfit (inners schema.now.kinds given.now) type_id 0 (members_of (kind_of schema.now.kinds type_id))) result path.new }
 {
-    if !are_few(given) {
+    if given.len() > FEW {
         return walk_by_block(schema, type_id, given, path);
     }
     walk_members(
@@ -185,7 +185,8 @@ fn walk_own(schema: &Schema, type_id: u32, given: &[Member], path: &mut PathList
     )
 }
 
-/// The same by a block of places. An object with few members makes no room for one.
+/// The same by a block of places. It keeps a frame of its own, so that an object of few members has
+/// no room for a block to clear.
 #[cycle(walk)]
 #[inline(never)]
 fn walk_by_block(

@@ -10,13 +10,8 @@ ghost use Rattle.qm_admit.specs.Walks.{place_of_name};
 use qapi_types::{MemberDef, Schema};
 use qm_json::Member;
 
-/// Among so many given members a name is found by going through them, without a block.
-const FEW: usize = 8;
-
-/// Whether the given members are so few that no block is made.
-pub fn are_few(given: &[Member]) -> bool {
-    given.len() <= FEW
-}
+/// Among at most so many given members a name is found by going through them, without a block.
+pub const FEW: usize = 8;
 
 /// The positions of the given members of 256 of a type's members, from one on.
 #[derive(Clone, Copy)]
@@ -85,7 +80,8 @@ fn cover(schema: &Schema, type_id: u32, given: &[Member], block: &mut Block, pos
     *block = block_of(schema, type_id, given, position);
 }
 
-/// What `place_at` answers, by a block.
+/// What `place_at` answers, by a block. To make one anew takes much of a frame, so that this keeps
+/// its own.
 #[inline(never)]
 fn place_in_block(
     schema: &Schema,

@@ -24,8 +24,8 @@ impl Default for PathStep {
     }
 }
 
-/// A way of at most 128 steps, which contracts see as their list. It takes no memory, and its places
-/// are made with the first step.
+/// A way of at most 128 steps, which contracts see as their list. It takes no memory, and its
+/// places are made with the first step, since most values have no fault.
 #[derive(Debug, Drop)]
 pub struct PathList {
     steps: Option<ArrayVec<PathStep, 128>>,
