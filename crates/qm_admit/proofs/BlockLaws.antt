@@ -1,13 +1,13 @@
 -- Given members are found by the positions of their names in a type.
-use Rattle.std.proofs.Common.{◌≡◌, ◌≢◌, ◌<◌, ◌≤◌, ◌+◌, ◌-◌, ℕ, zero, suc, Bool, true, false, cond, nat_lt, List, [], ◌∷◌, map, length, drop, get_or, set, Option, Some, None, IfSome, position, refl, ap, sym, ◌∙◌, subst, arith, bytes_eq}
+use Rattle.std.proofs.Common.{◌≡◌, ◌<◌, ◌≤◌, ◌+◌, ◌-◌, ℕ, zero, suc, Bool, true, false, cond, List, [], ◌∷◌, map, length, drop, get_or, Option, Some, None, IfSome, position, refl, ap, sym, ◌∙◌, subst, arith, bytes_eq}
 use Rattle.std.specs.List.{position_from}
 use Rattle.std.proofs.lemmas.{Slice.Eq.bytes_eq-Decides, Bool.Decides.nat_tests}
 use Rattle.std.proofs.lemmas.List.{length-map, length-set, drop_all, get_or-set_same, get_or-set_other, get_or-map}
 use Rattle.std.proofs.lemmas.List.Quantifiers.{position-Some}
 use Rattle.qm_json.specs.declared.value.{Member.Member}
-use Rattle.qapi_types.specs.declared.{kind.Kind.Kind, kind.MemberDef.MemberDef, parts.Parts.Parts}
+use Rattle.qapi_types.specs.declared.{kind.MemberDef.MemberDef, parts.Parts.Parts}
 use Rattle.qapi_types.specs.{Choices.AreApart, Choices.times, Choices.names_of, Choices.stays, Goodness.IsGood, Lookups.place_of}
-use Rattle.qapi_types.specs.Types.{kind_of, members_of, member_names}
+use Rattle.qapi_types.specs.Types.{kind_of, member_names}
 use Rattle.qapi_types.proofs.{ChoiceLaws.itself, FaultLaws.names-at}
 use Rattle.qm_admit.specs.Blocks.{ArePlaced, Covers, noted, slot_of}
 use Rattle.qm_admit.specs.Walks.{place_of_name}

@@ -1,15 +1,17 @@
 ghost use Rattle.std.specs.Prelude.{◌≡◌, ◌<◌, ◌^◌, [], length, false, IfSome, IfNone};
 ghost use Rattle.std.specs.List.{All};
-ghost use Rattle.qapi_types.specs.Types.{kind_of, members_of, is_array, is_object};
+ghost use Rattle.qapi_types.specs.Types.{kind_of, members_of, member_names, is_array, is_object};
 ghost use Rattle.qm_json.specs.declared.value.Json.TheVariants.{Obj};
 ghost use Rattle.qapi_types.specs.declared.kind.Kind.TheVariants as kinds;
 ghost use Rattle.qapi_types.specs.declared.kind.MemberDef.{MemberDef as TypeMember};
+ghost use Rattle.qm_admit.specs.declared.members.Block.{Block as Places};
+ghost use Rattle.qm_admit.specs.Blocks.{ArePlaced};
 ghost use Rattle.qm_admit.specs.Misfits.{first_misfit, given_misfit, members_misfit, types_misfit};
 ghost use Rattle.qm_admit.specs.Walks.{Tells, inners, chosen_types, value_misfit, array_misfit, item_list_misfit, given_object_misfit};
 
 use crate::alternatives::{alternative, sort_of};
 use crate::choices::chosen;
-use crate::members::{block_of, own_members, place_at};
+use crate::members::{Block, FEW, block_of, own_members, place_at};
 use crate::path::{PathList, PathStep};
 use crate::plain::{bool_fault, int_fault, null_fault, num_fault, other_fault, text_fault};
 use crate::unexpected::unexpected;
@@ -152,7 +154,7 @@ fn walk_choices(
         match next {
             None => return None,
             Some(own) => {
-                match walk_members(schema, own, own_members(schema, own), given, path) {
+                match walk_own(schema, own, given, path) {
                     None => {}
                     Some(fault) => return Some(fault),
                 }
@@ -163,24 +165,70 @@ fn walk_choices(
     None
 }
 
+/// The first fault of the type's own members.
+#[cycle(walk)]
+fn walk_own(schema: &Schema, type_id: u32, given: &[Member], path: &mut PathList) -> Option<Fault>
+    requires id { type_id < length schema.now.kinds }
+    requires path { path.old ≡ [] }
+    ensures { Tells (members_misfit (inners schema.now.kinds given.now) type_id 0 (members_of (kind_of schema.now.kinds type_id))) result path.new }
+{
+    if given.len() > FEW {
+        return walk_by_block(schema, type_id, given, path);
+    }
+    walk_members(
+        schema,
+        type_id,
+        own_members(schema, type_id),
+        given,
+        &mut [],
+        path,
+    )
+}
+
+/// The same by a block of places. It keeps a frame of its own, so that an object of few members has
+/// no room for a block to clear.
+#[cycle(walk)]
+#[inline(never)]
+fn walk_by_block(
+    schema: &Schema,
+    type_id: u32,
+    given: &[Member],
+    path: &mut PathList,
+) -> Option<Fault>
+    requires id { type_id < length schema.now.kinds }
+    requires path { path.old ≡ [] }
+    ensures { Tells (members_misfit (inners schema.now.kinds given.now) type_id 0 (members_of (kind_of schema.now.kinds type_id))) result path.new }
+{
+    let mut blocks = [block_of(schema, type_id, given, 0)];
+    walk_members(
+        schema,
+        type_id,
+        own_members(schema, type_id),
+        given,
+        &mut blocks,
+        path,
+    )
+}
+
 #[cycle(walk)]
 fn walk_members(
     schema: &Schema,
     type_id: u32,
     members: &[MemberDef],
     given: &[Member],
+    blocks: &mut [Block],
     path: &mut PathList,
 ) -> Option<Fault>
     requires id { type_id < length schema.now.kinds }
     requires members { members.now ≡ members_of (kind_of schema.now.kinds type_id) }
     requires ids { All (λ (m : TypeMember). m.type_id < length schema.now.kinds) members.now }
     requires few { length members.now < 2 ^ 32 }
+    requires placed { All (λ (b : Places). ArePlaced given.now (member_names (kind_of schema.now.kinds type_id)) b.start b.places) blocks.old }
     requires path { path.old ≡ [] }
     ensures { Tells (members_misfit (inners schema.now.kinds given.now) type_id 0 members.now) result path.new }
 {
-    let mut block = block_of(schema, type_id, given, 0);
     for (i, member) in members.iter().enumerate() {
-        let found = place_at(schema, type_id, given, &mut block, i);
+        let found = place_at(schema, type_id, given, blocks, i);
         match walk_member(schema, type_id, i as u32, member, given, found, path) {
             None => {}
             Some(fault) => return Some(fault),

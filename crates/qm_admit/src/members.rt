@@ -3,11 +3,15 @@ ghost use Rattle.std.specs.List.{All};
 ghost use Rattle.qapi_types.specs.Lookups.{place_of};
 ghost use Rattle.qapi_types.specs.Types.{kind_of, members_of, member_names};
 ghost use Rattle.qapi_types.specs.declared.kind.MemberDef.{MemberDef as TypeMember};
+ghost use Rattle.qm_admit.specs.declared.members.Block.{Block as Places};
 ghost use Rattle.qm_admit.specs.Blocks.{ArePlaced, Covers, noted, slot_of};
 ghost use Rattle.qm_admit.specs.Walks.{place_of_name};
 
 use qapi_types::{MemberDef, Schema};
 use qm_json::Member;
+
+/// Among at most so many given members a name is found by going through them, without a block.
+pub const FEW: usize = 8;
 
 /// The positions of the given members of 256 of a type's members, from one on.
 #[derive(Clone, Copy)]
@@ -76,8 +80,10 @@ fn cover(schema: &Schema, type_id: u32, given: &[Member], block: &mut Block, pos
     *block = block_of(schema, type_id, given, position);
 }
 
-/// The position of the first given member of the name of the type's member at the position.
-pub fn place_at(
+/// What `place_at` answers, by a block. To make one anew takes much of a frame, so that this keeps
+/// its own.
+#[inline(never)]
+fn place_in_block(
     schema: &Schema,
     type_id: u32,
     given: &[Member],
@@ -88,11 +94,40 @@ pub fn place_at(
     requires position { position < length (member_names (kind_of schema.now.kinds type_id)) }
     requires placed { ArePlaced given.now (member_names (kind_of schema.now.kinds type_id)) block.old.start block.old.places }
     ensures value { result ≡ place_of_name given.now (slice_index_or (member_names (kind_of schema.now.kinds type_id)) position []) }
-    ensures within { IfSome result (λ i. i < length given.now) }
     ensures placed { ArePlaced given.now (member_names (kind_of schema.now.kinds type_id)) block.new.start block.new.places }
 {
     cover(schema, type_id, given, block, position);
     block.places[position - block.start]
+}
+
+/// The position of the first given member of the name.
+fn place_of_name(given: &[Member], name: &[u8]) -> Option<usize>
+    ensures { result ≡ place_of_name given.now name.now }
+{
+    given.iter().position(|m| m.name.as_slice() == name)
+}
+
+/// The position of the first given member of the name of the type's member at the position: by the
+/// first block, and where there is none by going through the given members.
+pub fn place_at(
+    schema: &Schema,
+    type_id: u32,
+    given: &[Member],
+    blocks: &mut [Block],
+    position: usize,
+) -> Option<usize>
+    requires id { type_id < length schema.now.kinds }
+    requires position { position < length (member_names (kind_of schema.now.kinds type_id)) }
+    requires placed { All (λ (b : Places). ArePlaced given.now (member_names (kind_of schema.now.kinds type_id)) b.start b.places) blocks.old }
+    ensures value { result ≡ place_of_name given.now (slice_index_or (member_names (kind_of schema.now.kinds type_id)) position []) }
+    ensures within { IfSome result (λ i. i < length given.now) }
+    ensures placed { All (λ (b : Places). ArePlaced given.now (member_names (kind_of schema.now.kinds type_id)) b.start b.places) blocks.new }
+{
+    if blocks.is_empty() {
+        let name = own_members(schema, type_id)[position].name.as_slice();
+        return place_of_name(given, name);
+    }
+    place_in_block(schema, type_id, given, &mut blocks[0], position)
 }
 
 /// The members of the type.

@@ -24,19 +24,22 @@ impl Default for PathStep {
     }
 }
 
-/// A way of at most 128 steps, which contracts see as their list. It takes no memory.
+/// A way of at most 128 steps, which contracts see as their list. It takes no memory, and its
+/// places are made with the first step, since most values have no fault.
 #[derive(Debug, Drop)]
 pub struct PathList {
-    steps: ArrayVec<PathStep, 128>,
+    steps: Option<ArrayVec<PathStep, 128>>,
 }
 
 impl Model for PathList {
-    ghost use Rattle.std.specs.Prelude.{List};
+    ghost use Rattle.std.specs.Prelude.{List, []};
+    ghost use Rattle.std.specs.Option.{option_map_or};
+    ghost use Rattle.arrayvec.specs.ArrayVec.{ArrayVec as Steps};
     ghost use Rattle.qm_admit.specs.declared.path.PathStep.{PathStep};
 
     ghost Value = { List PathStep };
 
-    ghost view = { λ p. p.steps.items };
+    ghost view = { λ p. option_map_or (λ (s : Steps PathStep). s.items) p.steps [] };
 }
 
 impl PathList {
@@ -44,23 +47,26 @@ impl PathList {
     pub fn new() -> PathList
         ensures { result ≡ [] }
     {
-        PathList {
-            steps: ArrayVec::new(),
-        }
+        PathList { steps: None }
     }
 
     /// The steps, from the value on.
     pub fn as_slice(&self) -> &[PathStep]
         ensures { result.now ≡ self.now }
     {
-        self.steps.as_slice()
+        match &self.steps {
+            None => &[],
+            Some(steps) => steps.as_slice(),
+        }
     }
 
     /// Puts a step before the others; of the whole the first 128 steps are kept.
+    #[inline(never)]
     pub fn prepend(&mut self, step: PathStep)
         ensures { self.new ≡ take 128 (step ∷ self.old) }
     {
-        self.steps.truncate(127);
-        self.steps.insert(0, step);
+        let steps = self.steps.get_or_insert_with(ArrayVec::new);
+        steps.truncate(127);
+        steps.insert(0, step);
     }
 }

@@ -1,11 +1,10 @@
-use Rattle.std.proofs.Common.{◌-◌, ◌∙◌, ap, sym, subst, refl, arith, length, List, Option, Some, None, ℕ}
-use Rattle.qapi_types.specs.declared.kind.{MemberDef.MemberDef}
+use Rattle.std.proofs.Common.{◌-◌, ◌∙◌, ap, sym, refl, arith, length, Option, ℕ}
 use Rattle.qapi_types.specs.Types.{members_of, kind_of}
 use Rattle.qm_json.specs.declared.value.Json.{out-Json}
 use Rattle.qm_json.specs.declared.value.Json.TheOpen as layer
 use Rattle.qm_json.specs.declared.value.Json.TheViews.{outs-Null, outs-Bool, outs-Int, outs-Num, outs-Str}
 use Rattle.qm_admit.specs.Misfits.{members_misfit, types_misfit, choices_from}
-use Rattle.qm_admit.specs.Walks.{Tells, asked, inners, chosen_types, item_list_misfit, place_of_name}
+use Rattle.qm_admit.specs.Walks.{asked, inners, chosen_types, item_list_misfit}
 use Rattle.qm_admit.proofs.Steps.{no-way, walked-some, value-once, value-array, value-object, array-walked, array-other, object-other, object-stops, object-walked, item-passes, item-stops, member-passes, member-stops, choice-passes, choice-stops}
 use Rattle.qm_admit.proofs.BlockLaws.{own-place}
 use Rattle.qm_admit.proofs.admission.+walk.Goals as goal
@@ -57,19 +56,19 @@ walk_members-returns-in-Some t c = member-stops c.args.schema.now.kinds c.args.g
 pub walk_members-loop-i-preserved : goal.walk_members-loop-i-preserved
 walk_members-loop-i-preserved t c = (no-way c.in-None.ensures, c.place_at-found.ensures.placed, member-passes c.args.schema.now.kinds c.args.given.now c.args.type_id c.loop-i.i c.args.members.now c.index-members-i.result c.place_at-found.result (members_misfit (inners c.args.schema.now.kinds c.args.given.now) c.args.type_id 0 c.args.members.now) c.loop-i-test.true c.index-members-i.is (own-place c.args.given.now c.args.members.now (members_of (kind_of c.args.schema.now.kinds c.args.type_id)) c.loop-i.i c.index-members-i.result c.place_at-found.result c.requires.members c.loop-i-test.true c.index-members-i.is c.place_at-found.ensures.value) c.loop-i.invariant.2 c.in-None.ensures)
 
-pub walk_choices-returns-in-Some-walk_members : goal.walk_choices-returns-in-Some-walk_members
-walk_choices-returns-in-Some-walk_members t c =
+pub walk_choices-returns-in-Some-walk_own : goal.walk_choices-returns-in-Some-walk_own
+walk_choices-returns-in-Some-walk_own t c =
     choice-stops c.args.schema.now.kinds c.args.given.now (length c.args.schema.now.kinds) c.loop-turn.turn c.in-Some.own (types_misfit c.args.schema.now.kinds (inners c.args.schema.now.kinds c.args.given.now) (chosen_types c.args.schema.now.kinds c.args.given.now c.args.type_id)) (omega arith)
     (c.loop-turn.invariant.2 ∙ ap (λ (o : Option ℕ). types_misfit c.args.schema.now.kinds (inners c.args.schema.now.kinds c.args.given.now) (choices_from (length c.args.schema.now.kinds - c.loop-turn.turn) c.args.schema.now.kinds (inners c.args.schema.now.kinds c.args.given.now) o)) c.in-Some.is)
-    (subst (λ (ms : List MemberDef). Tells (members_misfit (inners c.args.schema.now.kinds c.args.given.now) c.in-Some.own 0 ms) (Some c.in-Some-walk_members.fault) c.walk_members.new.path) c.own_members.ensures.value c.in-Some-walk_members.ensures)
+    c.in-Some-walk_own.ensures
 
 pub walk_choices-loop-turn-preserved : goal.walk_choices-loop-turn-preserved
 walk_choices-loop-turn-preserved t c = (
-  no-way c.in-None-walk_members.ensures,
+  no-way c.in-None-walk_own.ensures,
   c.chosen-next.ensures.within,
   choice-passes c.args.schema.now.kinds c.args.given.now (length c.args.schema.now.kinds) c.loop-turn.turn c.in-Some.own c.chosen-next.result (types_misfit c.args.schema.now.kinds (inners c.args.schema.now.kinds c.args.given.now) (chosen_types c.args.schema.now.kinds c.args.given.now c.args.type_id)) (omega arith) c.chosen-next.ensures.value
       (c.loop-turn.invariant.2 ∙ ap (λ (o : Option ℕ). types_misfit c.args.schema.now.kinds (inners c.args.schema.now.kinds c.args.given.now) (choices_from (length c.args.schema.now.kinds - c.loop-turn.turn) c.args.schema.now.kinds (inners c.args.schema.now.kinds c.args.given.now) o)) c.in-Some.is)
-      (subst (λ (ms : List MemberDef). Tells (members_misfit (inners c.args.schema.now.kinds c.args.given.now) c.in-Some.own 0 ms) None c.walk_members.new.path) c.own_members.ensures.value c.in-None-walk_members.ensures),
+      c.in-None-walk_own.ensures,
 )
 
 pub walk_object-returns-then-not-is_object : goal.walk_object-returns-then-not-is_object

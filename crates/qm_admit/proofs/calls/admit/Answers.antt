@@ -1,5 +1,4 @@
-use Rattle.std.proofs.Common.{rules, ◌≡◌, sym, ◌∙◌, ap, subst, ◌↔◌}
-use Rattle.qm_json.specs.Cleanness.{IsClean}
+use Rattle.std.proofs.Common.{rules, ◌≡◌, sym, subst, ◌↔◌}
 use Rattle.qm_admit.specs.{Fitting.Fits, declared.verdict.Verdict.Verdict, declared.verdict.Verdict.TheVariants.Yes}
 use Rattle.qm_admit.proofs.FitLaws.{yes-iff_fits}
 use Rattle.qm_admit.proofs.calls.admit.Goals as goal
