@@ -1,2 +1,9 @@
+pub mod Cuts
+pub mod Digits
+pub mod EntryLines
+pub mod EntryTexts
 pub mod Gathering
+pub mod JournalTexts
 pub mod Numbering
+pub mod PrintedApart
+pub mod PrintedLines

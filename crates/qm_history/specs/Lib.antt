@@ -1,1 +1,6 @@
 pub mod Gathering
+pub mod Guesses
+pub mod Histories
+pub mod Lines
+pub mod Readings
+pub mod Words

@@ -1,6 +1,7 @@
 ghost use Rattle.std.specs.Prelude.{◌≡◌, ◌++◌, codes, flat_map, length, OnOk};
 ghost use Rattle.std.specs.Fmt.{decimal};
-ghost use Rattle.qm_core.specs.Texts.{answer_text_of, bad_word_of, cause_word_of, entry_text_of, entry_body_of, input_text_of, json_word_of, lane_word_of, request_text_of, taken_text_of};
+ghost use Rattle.qm_core.specs.Texts.{bad_word_of, cause_word_of, entry_text_of, input_text_of, json_word_of, lane_word_of, request_text_of, taken_text_of};
+ghost use Rattle.qm_history.specs.Histories.{answer_of, said_of, taken_by};
 
 use itoa::Buffer;
 use qm_base::{NoMemory, Shared, Text};
@@ -8,7 +9,7 @@ use qm_caps::Lane;
 use qm_core::{BadInput, Cause, Entry, Input, JsonWord, lane_word};
 use qm_json::Json;
 
-fn put_number(out: &mut Text, number: u64) -> Result<(), NoMemory>
+pub(crate) fn put_number(out: &mut Text, number: u64) -> Result<(), NoMemory>
     ensures { OnOk result (out.new ≡ out.old ++ decimal number) }
 {
     let mut buffer = Buffer::new();
@@ -68,6 +69,118 @@ fn put_request(out: &mut Text, session: u32, number: u64) -> Result<(), NoMemory
     put_number(out, number)
 }
 
+fn put_word_session(out: &mut Text, word: &[u8], session: u32) -> Result<(), NoMemory>
+    ensures { OnOk result (out.new ≡ out.old ++ (word.now ++ decimal session)) }
+{
+    out.extend(word)?;
+    put_number(out, u64::from(session))
+}
+
+/// Puts a word, and two numbers after it.
+pub(crate) fn put_word_request(
+    out: &mut Text,
+    word: &[u8],
+    session: u32,
+    number: u64,
+) -> Result<(), NoMemory>
+    ensures { OnOk result (out.new ≡ out.old ++ (word.now ++ request_text_of session number)) }
+{
+    out.extend(word)?;
+    put_request(out, session, number)
+}
+
+fn put_admission(
+    out: &mut Text,
+    session: u32,
+    number: u64,
+    lane: Lane,
+    input: &Input,
+) -> Result<(), NoMemory>
+    ensures { OnOk result (out.new ≡ out.old ++ (codes "admit " ++ (request_text_of session number
+        ++ codes " " ++ lane_word_of lane ++ codes " " ++ input_text_of input.now))) }
+{
+    put_word_request(out, b"admit ", session, number)?;
+    out.push(b' ')?;
+    out.extend(lane_word(lane))?;
+    out.push(b' ')?;
+    put_input(out, input)
+}
+
+fn put_answer(
+    out: &mut Text,
+    session: u32,
+    number: u64,
+    reply: &Json,
+    moment: u64,
+) -> Result<(), NoMemory>
+    ensures { OnOk result (out.new ≡ out.old ++ answer_of session number reply.now moment) }
+{
+    put_request(out, session, number)?;
+    out.extend(b" @")?;
+    put_number(out, moment)?;
+    out.push(b' ')?;
+    reply.write_text(out)
+}
+
+fn put_word_answer(
+    out: &mut Text,
+    word: &[u8],
+    session: u32,
+    number: u64,
+    reply: &Json,
+    moment: u64,
+) -> Result<(), NoMemory>
+    ensures { OnOk result (out.new ≡ out.old
+        ++ (word.now ++ answer_of session number reply.now moment)) }
+{
+    out.extend(word)?;
+    put_answer(out, session, number, reply, moment)
+}
+
+fn put_drop(out: &mut Text, session: u32, cause: Cause) -> Result<(), NoMemory>
+    ensures { OnOk result (out.new ≡ out.old
+        ++ (codes "drop " ++ (decimal session ++ codes " " ++ cause_word_of cause))) }
+{
+    put_word_session(out, b"drop ", session)?;
+    out.push(b' ')?;
+    out.extend(cause.word())
+}
+
+/// Puts what the first line of an entry says after its number.
+pub(crate) fn put_said(out: &mut Text, entry: &Entry) -> Result<(), NoMemory>
+    ensures { OnOk result (out.new ≡ out.old ++ said_of entry.now) }
+{
+    match entry {
+        Entry::Open { session } => put_word_session(out, b"open ", *session),
+        Entry::Admit {
+            session,
+            number,
+            lane,
+            input,
+        } => { put_admission(out, *session, *number, *lane, input) }
+        Entry::Start { session, number } => put_word_request(out, b"start ", *session, *number),
+        Entry::Done {
+            session,
+            number,
+            plan: _,
+            reply,
+            moment,
+        } => { put_word_answer(out, b"done ", *session, *number, reply, *moment) }
+        Entry::OobDone {
+            session,
+            number,
+            plan: _,
+            reply,
+            moment,
+        } => { put_word_answer(out, b"oob-done ", *session, *number, reply, *moment) }
+        Entry::Take { session, lines } => {
+            put_word_request(out, b"take ", *session, lines.len() as u64)
+        }
+        Entry::Eof { session } => put_word_session(out, b"eof ", *session),
+        Entry::Drop { session, cause } => put_drop(out, *session, *cause),
+    }
+}
+
 fn put_line(out: &mut Text, line: &[u8]) -> Result<(), NoMemory>
     ensures { OnOk result (out.new ≡ out.old ++ taken_text_of line.now) }
 {
@@ -85,121 +198,23 @@ fn put_lines(out: &mut Text, lines: &[Shared<Text>]) -> Result<(), NoMemory>
     Ok(())
 }
 
-fn put_session_line(out: &mut Text, word: &[u8], session: u32) -> Result<(), NoMemory>
-    ensures { OnOk result (out.new ≡ out.old ++ (word.now ++ decimal session ++ codes "\n")) }
-{
-    out.extend(word)?;
-    put_number(out, u64::from(session))?;
-    out.push(b'\n')
-}
-
-fn put_admit(
-    out: &mut Text,
-    session: u32,
-    number: u64,
-    lane: Lane,
-    input: &Input,
-) -> Result<(), NoMemory>
-    ensures { OnOk result (out.new ≡ out.old ++ (codes " admit " ++ request_text_of session number
-        ++ codes " " ++ lane_word_of lane ++ codes " " ++ input_text_of input.now ++ codes "\n")) }
-{
-    out.extend(b" admit ")?;
-    put_request(out, session, number)?;
-    out.push(b' ')?;
-    out.extend(lane_word(lane))?;
-    out.push(b' ')?;
-    put_input(out, input)?;
-    out.push(b'\n')
-}
-
-fn put_start(out: &mut Text, session: u32, number: u64) -> Result<(), NoMemory>
-    ensures { OnOk result (out.new ≡ out.old
-        ++ (codes " start " ++ request_text_of session number ++ codes "\n")) }
-{
-    out.extend(b" start ")?;
-    put_request(out, session, number)?;
-    out.push(b'\n')
-}
-
-fn put_answer(
-    out: &mut Text,
-    word: &[u8],
-    session: u32,
-    number: u64,
-    reply: &Json,
-    moment: u64,
-) -> Result<(), NoMemory>
-    ensures { OnOk result (out.new ≡ out.old
-        ++ (word.now ++ answer_text_of session number reply.now moment)) }
-{
-    out.extend(word)?;
-    put_request(out, session, number)?;
-    out.extend(b" @")?;
-    put_number(out, moment)?;
-    out.push(b' ')?;
-    reply.write_text(out)?;
-    out.push(b'\n')
-}
-
-fn put_take(out: &mut Text, session: u32, lines: &[Shared<Text>]) -> Result<(), NoMemory>
-    ensures { OnOk result (out.new ≡ out.old ++ (codes " take " ++ decimal session ++ codes " "
-        ++ decimal (length lines.now) ++ codes "\n" ++ flat_map taken_text_of lines.now)) }
-{
-    out.extend(b" take ")?;
-    put_number(out, u64::from(session))?;
-    out.push(b' ')?;
-    put_number(out, lines.len() as u64)?;
-    out.push(b'\n')?;
-    put_lines(out, lines)
-}
-
-fn put_drop(out: &mut Text, session: u32, cause: Cause) -> Result<(), NoMemory>
-    ensures { OnOk result (out.new ≡ out.old
-        ++ (codes " drop " ++ decimal session ++ codes " " ++ cause_word_of cause ++ codes "\n")) }
-{
-    out.extend(b" drop ")?;
-    put_number(out, u64::from(session))?;
-    out.push(b' ')?;
-    out.extend(cause.word())?;
-    out.push(b'\n')
-}
-
-fn put_body(out: &mut Text, entry: &Entry) -> Result<(), NoMemory>
-    ensures { OnOk result (out.new ≡ out.old ++ entry_body_of entry.now) }
+fn put_taken(out: &mut Text, entry: &Entry) -> Result<(), NoMemory>
+    ensures { OnOk result (out.new ≡ out.old ++ flat_map taken_text_of (taken_by entry.now)) }
 {
     match entry {
-        Entry::Open { session } => put_session_line(out, b" open ", *session),
-        Entry::Admit {
-            session,
-            number,
-            lane,
-            input,
-        } => { put_admit(out, *session, *number, *lane, input) }
-        Entry::Start { session, number } => put_start(out, *session, *number),
-        Entry::Done {
-            session,
-            number,
-            plan: _,
-            reply,
-            moment,
-        } => { put_answer(out, b" done ", *session, *number, reply, *moment) }
-        Entry::OobDone {
-            session,
-            number,
-            plan: _,
-            reply,
-            moment,
-        } => { put_answer(out, b" oob-done ", *session, *number, reply, *moment) }
-        Entry::Take { session, lines } => put_take(out, *session, lines.as_slice()),
-        Entry::Eof { session } => put_session_line(out, b" eof ", *session),
-        Entry::Drop { session, cause } => put_drop(out, *session, *cause),
+        Entry::Take { session: _, lines } => put_lines(out, lines.as_slice()),
+        _ => Ok(()),
     }
 }
 
 /// Appends the lines of an entry: its number and what it says, and the lines that it handed out.
-pub fn put_entry(out: &mut Text, number: u64, entry: &Entry) -> Result<(), NoMemory>
+#[tactic(auto, using(crate::proofs::EntryLines::entry_parts))]
+pub(crate) fn put_entry(out: &mut Text, number: u64, entry: &Entry) -> Result<(), NoMemory>
     ensures { OnOk result (out.new ≡ out.old ++ entry_text_of number entry.now) }
 {
     put_number(out, number)?;
-    put_body(out, entry)
+    out.push(b' ')?;
+    put_said(out, entry)?;
+    out.push(b'\n')?;
+    put_taken(out, entry)
 }
