@@ -26,18 +26,18 @@ use Rattle.qm_core.specs.declared.inputs.JsonWord.TheVariants.{Expected, Duplica
 
 -- words
 
+pub cause-found : (c : Cause) → cause_of (cause_word_of c) ≡ Some c
+cause-found cause.Ended = refl
+cause-found cause.ReadFault = refl
+cause-found cause.WriteFault = refl
+cause-found cause.Overrun = refl
+cause-found cause.Stopped = refl
+cause-found cause.Limit = refl
+cause-found cause.Memory = refl
+cause-found cause.Halted = refl
+
 pub cause-told : (c d : Cause) → cause_word_of c ≡ cause_word_of d → c ≡ d
 cause-told c d e = let some : Some c ≡ Some d = sym (cause-found c) ∙ ap cause_of e ∙ cause-found d in cc
-  where
-    cause-found : (c : Cause) → cause_of (cause_word_of c) ≡ Some c
-    cause-found cause.Ended = refl
-    cause-found cause.ReadFault = refl
-    cause-found cause.WriteFault = refl
-    cause-found cause.Overrun = refl
-    cause-found cause.Stopped = refl
-    cause-found cause.Limit = refl
-    cause-found cause.Memory = refl
-    cause-found cause.Halted = refl
 
 pub cause-line : (c : Cause) → IsLine (cause_word_of c)
 cause-line cause.Ended = refl

@@ -3,7 +3,12 @@ pub mod Digits
 pub mod EntryLines
 pub mod EntryTexts
 pub mod Gathering
+pub mod GuessLaws
 pub mod JournalTexts
+pub mod LineLaws
 pub mod Numbering
 pub mod PrintedApart
 pub mod PrintedLines
+pub mod ReadingLaws
+pub mod TextLaws
+pub mod WordLaws

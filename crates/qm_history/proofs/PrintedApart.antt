@@ -27,7 +27,7 @@ use Rattle.qm_read.specs.declared.token.Token.{Token}
 use Rattle.qm_read.specs.declared.token.Token.TheVariants as tokens
 use Rattle.qm_read.specs.Strings.{string_length, text_of}
 use Rattle.qm_read.specs.Tokens.{literal_token, number_token}
-use Rattle.qm_history.proofs.Cuts.{IsPast, same_first, cut_runs, cut_lengths}
+use Rattle.qm_history.proofs.Cuts.{IsPast, first_of, same_first, cut_runs, cut_lengths}
 use Rattle.qm_read.proofs.NumberBytes.{IsRun, literal-run}
 use Rattle.qm_read.proofs.Pieces.{ends-at, ends_run, commas-end}
 use Rattle.qm_read.proofs.PrintedStrings.{points-inside, points-read}
@@ -257,7 +257,7 @@ closes-object : Closes printed_member is_clean_member 125
 closes-object = record { no_comma = λ e. cc; ends = λ a. refl; begins_none = λ y clean a b e. none a (escapes (code_points y.name)) y b (e ∙ member-text y b) }
   where
     none : (a raw : List ℕ) (y : Member) (b : List ℕ) → 125 ∷ a ≡ quoted y.name ++ (58 ∷ 32 ∷ printed y.value ++ b) → ⊥
-    none a raw y b e = let first : 125 ≡ 34 = (same_first 125 34 a (escapes (code_points y.name) ++ codes "\"" ++ (58 ∷ 32 ∷ printed y.value ++ b)) e).0 in cc
+    none a raw y b e = let first : 125 ≡ 34 = ap first_of e in cc
 
 object-told : (members : List Member) (w : Json) (a b : List ℕ) → AllByRecursion (λ (m : Member). IsTold printed is_clean m.value) members → is_clean (json.Obj members) ≡ true → is_clean w ≡ true → Sort 123 w → Meets (json.Obj members) w a b → Same (json.Obj members) w a b
 object-told members w a b hs h k (number x v g n) e = absurd cc

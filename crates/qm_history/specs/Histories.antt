@@ -105,7 +105,7 @@ history_lines entries = lines_from 1 entries ++ end_line (length entries) ∷ []
 
 -- the text of entries, and the line that counts them
 abbrev pub whole_text_of : List Entry → List ℕ
-whole_text_of entries = text_of entries ++ end_line (length entries) ++ codes "\n"
+whole_text_of entries = text_of entries ++ (end_line (length entries) ++ codes "\n")
 
 -- the text is the whole history of the entries, in which no line has an LF but at its end
 pub record IsHistory (text : List ℕ) (entries : List Entry) : Type 0 where

@@ -1,13 +1,27 @@
 //! Laws of texts of journals.
 
-ghost use Rattle.std.specs.Prelude.{◌≡◌, List};
+ghost use Rattle.std.specs.Prelude.{◌≡◌, ℕ, List};
 ghost use Rattle.qm_core.specs.Legal.{IsLegal};
 ghost use Rattle.qm_core.specs.Texts.{text_of};
 ghost use Rattle.qm_core.specs.declared.entries.Entry.{Entry};
 ghost use Rattle.qm_core.specs.declared.world.World.{World};
+ghost use Rattle.qm_history.specs.Histories.{FirstWrong, IsHistory};
 
 /// Legal journals of one world that differ have different texts.
 pub fn text_determines_the_journal()
     ensures { (world : World) (one other : List Entry) →
         IsLegal world one → IsLegal world other → text_of one ≡ text_of other → one ≡ other }
+{}
+
+/// A text is the history of one list of entries at most.
+pub fn each_history_is_of_one_list()
+    ensures { (text : List ℕ) (entries others : List Entry) →
+        IsHistory text entries → IsHistory text others → entries ≡ others }
+{}
+
+/// A text has one first line that cannot stand at most, and the text of a history has none.
+pub fn each_refusal_is_the_first()
+    ensures one { (text : List ℕ) (m n : ℕ) → FirstWrong text m → FirstWrong text n → m ≡ n }
+    ensures none { (text : List ℕ) (entries : List Entry) (n : ℕ) →
+        IsHistory text entries → FirstWrong text n → ⊥ }
 {}
