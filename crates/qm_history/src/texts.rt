@@ -1,7 +1,6 @@
 ghost use Rattle.std.specs.Prelude.{◌≡◌, ◌++◌, codes, flat_map, length, OnOk};
 ghost use Rattle.std.specs.Fmt.{decimal};
-ghost use Rattle.qm_json.specs.Printing.{printed};
-ghost use Rattle.qm_core.specs.Texts.{bad_word_of, cause_word_of, entry_text_of, entry_body_of, input_text_of, json_word_of, lane_word_of, request_text_of, taken_text_of};
+ghost use Rattle.qm_core.specs.Texts.{answer_text_of, bad_word_of, cause_word_of, entry_text_of, entry_body_of, input_text_of, json_word_of, lane_word_of, request_text_of, taken_text_of};
 
 use itoa::Buffer;
 use qm_base::{NoMemory, Shared, Text};
@@ -122,23 +121,36 @@ fn put_start(out: &mut Text, session: u32, number: u64) -> Result<(), NoMemory>
     out.push(b'\n')
 }
 
-fn put_done(
+fn put_answer(
     out: &mut Text,
     session: u32,
     number: u64,
     reply: &Json,
     moment: u64,
 ) -> Result<(), NoMemory>
-    ensures { OnOk result (out.new ≡ out.old ++ (codes " done " ++ request_text_of session number
-        ++ codes " @" ++ decimal moment ++ codes " " ++ printed reply.now ++ codes "\n")) }
+    ensures { OnOk result (out.new ≡ out.old ++ answer_text_of session number reply.now moment) }
 {
-    out.extend(b" done ")?;
     put_request(out, session, number)?;
     out.extend(b" @")?;
     put_number(out, moment)?;
     out.push(b' ')?;
     reply.write_text(out)?;
     out.push(b'\n')
+}
+
+fn put_reply(
+    out: &mut Text,
+    word: &[u8],
+    session: u32,
+    number: u64,
+    reply: &Json,
+    moment: u64,
+) -> Result<(), NoMemory>
+    ensures { OnOk result (out.new ≡ out.old
+        ++ (word.now ++ answer_text_of session number reply.now moment)) }
+{
+    out.extend(word)?;
+    put_answer(out, session, number, reply, moment)
 }
 
 fn put_take(out: &mut Text, session: u32, lines: &[Shared<Text>]) -> Result<(), NoMemory>
@@ -182,7 +194,14 @@ fn put_body(out: &mut Text, entry: &Entry) -> Result<(), NoMemory>
             plan: _,
             reply,
             moment,
-        } => { put_done(out, *session, *number, reply, *moment) }
+        } => { put_reply(out, b" done ", *session, *number, reply, *moment) }
+        Entry::OobDone {
+            session,
+            number,
+            plan: _,
+            reply,
+            moment,
+        } => { put_reply(out, b" oob-done ", *session, *number, reply, *moment) }
         Entry::Take { session, lines } => put_take(out, *session, lines.as_slice()),
         Entry::Eof { session } => put_session_line(out, b" eof ", *session),
         Entry::Drop { session, cause } => put_drop(out, *session, *cause),
