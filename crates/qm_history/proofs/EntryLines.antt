@@ -4,7 +4,7 @@ use Rattle.std.specs.Fmt.{decimal}
 use Rattle.std.specs.List.{flat_map}
 use Rattle.qm_core.specs.Texts.{entry_text_of, taken_text_of}
 use Rattle.qm_core.specs.declared.entries.Entry.{Entry, TheVariants.Open, TheVariants.Admit, TheVariants.Start, TheVariants.Done, TheVariants.OobDone, TheVariants.Take, TheVariants.Eof, TheVariants.Drop}
-use Rattle.qm_history.specs.Histories.{first_line_of, said_of, taken_by}
+use Rattle.qm_history.specs.Forms.{said_of, taken_by}
 
 -- its first line, and a line for each that it hands out
 pub entry_parts : (n : ℕ) (e : Entry) → entry_text_of n e ≡ decimal n ++ codes " " ++ said_of e ++ codes "\n" ++ flat_map taken_text_of (taken_by e)

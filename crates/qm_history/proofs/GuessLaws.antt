@@ -34,7 +34,8 @@ use Rattle.qm_core.specs.declared.entries.Cause.{Cause}
 use Rattle.qm_core.specs.declared.entries.Entry.{Entry, TheVariants.Open, TheVariants.Admit, TheVariants.Start, TheVariants.Done, TheVariants.OobDone, TheVariants.Take, TheVariants.Eof, TheVariants.Drop}
 use Rattle.qm_history.specs.declared.guesses.{Answer.Answer, Head.Head, Head.TheVariants.Whole, Head.TheVariants.Taking}
 use Rattle.qm_history.specs.Words.{before_blank, after_blank, below, session_number}
-use Rattle.qm_history.specs.Histories.{HasName, HasValue, HasAnswer, HasInput, HasAdmission, HasText, answer_of, said_of, first_line_of, taken_line, end_line}
+use Rattle.qm_history.specs.Histories.{HasName, HasValue, HasAnswer, HasInput, HasAdmission, HasText, end_line}
+use Rattle.qm_history.specs.Forms.{answer_of, said_of, first_line_of, taken_line}
 use Rattle.qm_history.specs.Guesses.{head_of, told_by, head_line_of, IsHead, open_head, eof_head, start_head, take_head, drop_head, moment_in, read_value, value_in, answer_value, answer_moment, answer_number, answer_in, done, oob_done, lane_in, frame_in, json_word, json_in, bad_or, bad_in, document_in, input_in, admit_input, admit_lane, admit_number, admit_head, verb_head, guess, same_line, head_in}
 use Rattle.qm_history.proofs.Digits.{all_digits}
 use Rattle.qm_history.proofs.EntryTexts.{cause-found}
@@ -49,7 +50,7 @@ entry-head (Admit s k lane input) h = h
 entry-head (Start s k) h = h
 entry-head (Done s k plan reply moment) h = h
 entry-head (OobDone s k plan reply moment) h = h
-entry-head (Take s lines) h = h
+entry-head (Take s lines) h = h.name
 entry-head (Eof s) h = h
 entry-head (Drop s cause) h = h
 

@@ -2,6 +2,7 @@ pub mod Cuts
 pub mod Digits
 pub mod EntryLines
 pub mod EntryTexts
+pub mod FormLaws
 pub mod Gathering
 pub mod GuessLaws
 pub mod JournalTexts

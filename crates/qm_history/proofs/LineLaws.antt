@@ -11,7 +11,9 @@ use Rattle.std.proofs.lemmas.List.Quantifiers.{position-Some}
 use Rattle.qm_core.specs.Texts.{entry_text_of, text_from, taken_text_of}
 use Rattle.qm_core.specs.declared.entries.Entry.{Entry}
 use Rattle.qm_history.specs.Lines.{is_line_feed, stays_in_line, is_one_line, IsLine, AllLines, lines_in, left_in, lines_of, left_of}
-use Rattle.qm_history.specs.Histories.{said_of, first_line_of, taken_by, taken_line, lines_from, end_line, history_lines, whole_text_of}
+use Rattle.qm_history.specs.Forms.{said_of, first_line_of, taken_by, taken_line, lines_from, history_lines}
+use Rattle.qm_history.specs.Histories.{AllHaveText, end_line, whole_text_of}
+use Rattle.qm_history.proofs.FormLaws.{history-each}
 use Rattle.qm_history.proofs.EntryLines.{entry_parts}
 use Rattle.qm_history.proofs.PrintedLines.{line-append}
 
@@ -95,11 +97,17 @@ entries-lines n (e ∷ entries) =
     ∙ sym (flat_map-append ended (first_line_of n e ∷ map taken_line (taken_by e)) (lines_from (n + 1) entries))
 
 -- the text of a history is its lines
-pub whole-lines : (entries : List Entry) → whole_text_of entries ≡ flat_map ended (history_lines entries)
+whole-lines : (entries : List Entry) → whole_text_of entries ≡ flat_map ended (history_lines entries)
 whole-lines entries =
     ap (λ (l : List ℕ). l ++ (end_line (length entries) ++ 10 ∷ [])) (entries-lines 1 entries)
     ∙ ap (λ (l : List ℕ). flat_map ended (lines_from 1 entries) ++ l) (sym (append-nil (end_line (length entries) ++ 10 ∷ [])))
     ∙ sym (flat_map-append ended (lines_from 1 entries) (end_line (length entries) ∷ []))
+
+-- the lines of a history, and that nothing is left
+pub whole-cut : (entries : List Entry) → AllHaveText entries → (lines_of (whole_text_of entries) ≡ history_lines entries) × (left_of (whole_text_of entries) ≡ [])
+whole-cut entries h =
+    let cut = lines-cut (history_lines entries) (history-each entries h) in
+    (ap lines_of (whole-lines entries) ∙ cut.0, ap left_of (whole-lines entries) ∙ cut.1)
 
 -- a text is its lines, and what is left
 back : (before text : List ℕ) → before ++ text ≡ flat_map ended (lines_in before text) ++ left_in before text
@@ -116,8 +124,9 @@ back before (x ∷ text) = by (is_line_feed x) refl (back [] text) (back (before
         ∙ sym (append_assoc (before ++ 10 ∷ []) (flat_map ended (lines_in [] text)) (left_in [] text))
     by false e new more = sym (append_assoc before (x ∷ []) text) ∙ more
 
-pub text-back : (text : List ℕ) → left_of text ≡ [] → text ≡ flat_map ended (lines_of text)
-text-back text none = back [] text ∙ ap (λ (l : List ℕ). flat_map ended (lines_of text) ++ l) none ∙ append-nil (flat_map ended (lines_of text))
+-- a text is that of a history where its lines are
+pub whole-back : (text : List ℕ) (entries : List Entry) → left_of text ≡ [] → lines_of text ≡ history_lines entries → text ≡ whole_text_of entries
+whole-back text entries none is = back [] text ∙ ap (λ (l : List ℕ). flat_map ended (lines_of text) ++ l) none ∙ append-nil (flat_map ended (lines_of text)) ∙ ap (flat_map ended) is ∙ sym (whole-lines entries)
 
 -- the lines of a text have no LF
 all-in : (before text : List ℕ) → IsLine before → AllLines (lines_in before text)

@@ -10,8 +10,12 @@ use Rattle.qm_core.specs.declared.entries.Entry.{Entry, TheVariants.Open, TheVar
 use Rattle.qm_history.specs.declared.guesses.{Head.Head, Head.TheVariants.Whole, Head.TheVariants.Taking}
 use Rattle.qm_history.specs.declared.reading.Reading.{Reading, TheVariants.Between, TheVariants.Within, TheVariants.Ended}
 use Rattle.qm_history.specs.Guesses.{head_line_of, IsHead, head_in}
-use Rattle.qm_history.specs.Histories.{HasName, HasText, AllHaveText, first_line_of, taken_by, taken_line, lines_from, end_line, history_lines, BeginHistory}
-use Rattle.qm_history.specs.Readings.{AreHistory, taking, after_head, step, on, run}
+use Rattle.qm_history.specs.Lines.{IsLine, AllLines}
+use Rattle.qm_history.specs.Histories.{HasName, HasText, AllHaveText, end_line, BeginHistory}
+use Rattle.qm_history.specs.Forms.{first_line_of, taken_by, taken_line, lines_from, history_lines, AreHistory}
+use Rattle.qm_history.specs.Readings.{taking, after_head, step, on, run}
+use Rattle.qm_history.proofs.FormLaws.{lines-append, drop-line}
+use Rattle.qm_history.proofs.LineLaws.{whole-cut}
 use Rattle.qm_history.proofs.GuessLaws.{head-complete, head-sound, no_end, same_bytes, takes-word, word-takes}
 
 -- history lines are taken
@@ -42,7 +46,7 @@ whole-taken entries e rest has = ap (λ (o : Option Reading). on o (λ next. run
 
 entry-taken : (entries : List Entry) (e : Entry) (rest : List (List ℕ)) → HasText e → run (Between entries) (first_line_of (length entries + 1) e ∷ map taken_line (taken_by e) ++ rest) ≡ run (Between (entries ++ e ∷ [])) rest
 entry-taken entries (Take s lines) rest has =
-    ap (λ (o : Option Reading). on o (λ next. run next (map taken_line lines ++ rest))) (whole-step entries (Taking s (length lines)) has)
+    ap (λ (o : Option Reading). on o (λ next. run next (map taken_line lines ++ rest))) (whole-step entries (Taking s (length lines)) has.name)
     ∙ lines-taken entries s [] lines rest
 entry-taken entries (Open s) rest has = whole-taken entries (Open s) rest has
 entry-taken entries (Admit s k lane input) rest has = whole-taken entries (Admit s k lane input) rest has
@@ -73,7 +77,7 @@ history-taken entries has =
 -- what begins a history is taken
 pub begins-taken : (lines : List (List ℕ)) → BeginHistory lines → run (Between []) lines ≡ None → ⊥
 begins-taken lines b none =
-    let all : run (Between []) (lines ++ b.more) ≡ Some (Ended b.entries) = ap (run (Between [])) b.is ∙ history-taken b.entries b.each in
+    let all : run (Between []) (lines ++ b.more) ≡ Some (Ended b.entries) = ap (run (Between [])) (b.is ∙ (whole-cut b.entries b.each).0) ∙ history-taken b.entries b.each in
     let stuck : run (Between []) (lines ++ b.more) ≡ None = run-append (Between []) lines b.more ∙ ap (λ (o : Option Reading). on o (λ t. run t b.more)) none in
     let both : Some (Ended b.entries) ≡ None = sym all ∙ stuck in cc
 
@@ -87,7 +91,7 @@ held_lines (Ended entries) = history_lines entries
 
 abbrev pub IsGood : Reading → Type 0
 IsGood (Between entries) = AllHaveText entries
-IsGood (Within entries s left got) = AllHaveText entries × HasName s (length got + suc left)
+IsGood (Within entries s left got) = AllHaveText entries × HasName s (length got + suc left) × AllLines got
 IsGood (Ended entries) = AllHaveText entries
 
 pub record Holds (lines : List (List ℕ)) (s : Reading) : Type 0 where
@@ -115,15 +119,15 @@ from-one : (a : List Entry) (e : Entry) → lines_from 1 (a ++ e ∷ []) ≡ lin
 from-one a e = from-append 1 a (e ∷ []) ∙ ap (λ (l : List (List ℕ)). lines_from 1 a ++ first_line_of (length a + 1) e ∷ l) (append-nil (map taken_line (taken_by e)))
 
 -- lines that were taken, of which so many are wanting
-taking-holds : (entries : List Entry) (s left : ℕ) (got : List (List ℕ)) (lines : List (List ℕ)) → AllHaveText entries → HasName s (length got + left) →
+taking-holds : (entries : List Entry) (s left : ℕ) (got : List (List ℕ)) (lines : List (List ℕ)) → AllHaveText entries → HasName s (length got + left) → AllLines got →
     lines ≡ lines_from 1 entries ++ head_line_of (length entries + 1) (Taking s (length got + left)) ∷ map taken_line got → Holds lines (taking entries s left got)
-taking-holds entries s zero got lines has one is =
+taking-holds entries s zero got lines has one each is =
     let all : length got + 0 ≡ length got = omega arith in
     record {
-      good = has-append entries (Take s got ∷ []) has (subst (λ (n : ℕ). HasName s n) all one, tt);
+      good = has-append entries (Take s got ∷ []) has (record { name = subst (λ (n : ℕ). HasName s n) all one; each = each }, tt);
       is = is ∙ ap (λ (n : ℕ). lines_from 1 entries ++ head_line_of (length entries + 1) (Taking s n) ∷ map taken_line got) all ∙ sym (from-one entries (Take s got));
     }
-taking-holds entries s (suc left) got lines has one is = record { good = (has, one); is = is }
+taking-holds entries s (suc left) got lines has one each is = record { good = (has, one, each); is = is }
 
 pub some-state : (s t : Reading) → Some s ≡ Some t → s ≡ t
 some-state s t e = cc
@@ -147,7 +151,7 @@ head-holds entries lines line None t has is sound e = absurd cc
 head-holds entries lines line (Some (Taking s count)) t has is sound e =
     let told = sound (Taking s count) refl in
     subst (Holds (lines ++ line ∷ [])) (some-state (taking entries s count []) t e)
-    (taking-holds entries s count [] (lines ++ line ∷ []) has (subst (λ (n : ℕ). HasName s n) (none-first count) told.0)
+    (taking-holds entries s count [] (lines ++ line ∷ []) has (subst (λ (n : ℕ). HasName s n) (none-first count) told.0) tt
     (ap (λ (l : List (List ℕ)). l ++ line ∷ []) is ∙ ap (λ (l : List ℕ). lines_from 1 entries ++ l ∷ []) told.1 ∙ ap (λ (n : ℕ). lines_from 1 entries ++ head_line_of (length entries + 1) (Taking s n) ∷ []) (none-first count)))
 head-holds entries lines line (Some (Whole e)) t has is sound eq =
     let told = sound (Whole e) refl in
@@ -163,35 +167,35 @@ one-of : (b : Bool) (x y : Option Reading) (t : Reading) → cond b x y ≡ Some
 one-of true x y t e = inl (refl, e)
 one-of false x y t e = inr (refl, e)
 
-step-holds : (lines : List (List ℕ)) (line : List ℕ) (s t : Reading) → Holds lines s → step s line ≡ Some t → Holds (lines ++ line ∷ []) t
-step-holds lines line (Between entries) t h e = elim (one-of (bytes_eq line (end_line (length entries))) _ _ t e) [
+step-holds : (lines : List (List ℕ)) (line : List ℕ) (s t : Reading) → IsLine line → Holds lines s → step s line ≡ Some t → Holds (lines ++ line ∷ []) t
+step-holds lines line (Between entries) t one h e = elim (one-of (bytes_eq line (end_line (length entries))) _ _ t e) [
   | inl last ↦ subst (Holds (lines ++ line ∷ [])) (some-state (Ended entries) t last.1) record { good = h.good; is = ap (λ (l : List (List ℕ)). l ++ line ∷ []) h.is ∙ ap (λ (l : List ℕ). lines_from 1 entries ++ l ∷ []) ((bytes_eq-Decides line (end_line (length entries))).0 last.0) }
   | inr more ↦ head-holds entries lines line (head_in (length entries + 1) line) t h.good h.is (λ g found. head-sound (length entries + 1) line g found) more.1
 ]
-step-holds lines line (Within entries s left got) t h e = elim (one-of (starts_with nat_eq line (codes "> ")) _ _ t e) [
+step-holds lines line (Within entries s left got) t one h e = elim (one-of (starts_with nat_eq line (codes "> ")) _ _ t e) [
   | inl more ↦ (
       let count : length (got ++ drop 2 line ∷ []) + left ≡ length got + suc left = omega (arith, length-append got (drop 2 line ∷ [])) in
       let text : map taken_line (got ++ drop 2 line ∷ []) ≡ map taken_line got ++ line ∷ [] = map-append taken_line got (drop 2 line ∷ []) ∙ ap (λ (l : List ℕ). map taken_line got ++ l ∷ []) (sym (word-takes line more.0)) in
       subst (Holds (lines ++ line ∷ [])) (some-state (taking entries s left (got ++ drop 2 line ∷ [])) t more.1)
-      (taking-holds entries s left (got ++ drop 2 line ∷ []) (lines ++ line ∷ []) h.good.0 (subst (λ (n : ℕ). HasName s n) (sym count) h.good.1)
+      (taking-holds entries s left (got ++ drop 2 line ∷ []) (lines ++ line ∷ []) h.good.0 (subst (λ (n : ℕ). HasName s n) (sym count) h.good.1) (lines-append got (drop 2 line ∷ []) h.good.2 (drop-line 2 line one, tt))
       (ap (λ (l : List (List ℕ)). l ++ line ∷ []) h.is
       ∙ append_assoc (lines_from 1 entries) (head_line_of (length entries + 1) (Taking s (length got + suc left)) ∷ map taken_line got) (line ∷ [])
       ∙ ap (λ (l : List (List ℕ)). lines_from 1 entries ++ head_line_of (length entries + 1) (Taking s (length got + suc left)) ∷ l) (sym text)
       ∙ ap (λ (n : ℕ). lines_from 1 entries ++ head_line_of (length entries + 1) (Taking s n) ∷ map taken_line (got ++ drop 2 line ∷ [])) (sym count))))
   | inr none ↦ absurd (let no : None ≡ Some t = none.1 in cc)
 ]
-step-holds lines line (Ended entries) t h e = absurd cc
+step-holds lines line (Ended entries) t one h e = absurd cc
 
-run-holds : (before lines : List (List ℕ)) (s t : Reading) → Holds before s → run s lines ≡ Some t → Holds (before ++ lines) t
-run-holds before [] s t h e = subst (λ (l : List (List ℕ)). Holds l t) (sym (append-nil before)) (subst (Holds before) (some-state s t e) h)
-run-holds before (line ∷ lines) s t h e = by (step s line) refl e (λ next g. run-holds (before ++ line ∷ []) lines next t g)
+run-holds : (before lines : List (List ℕ)) (s t : Reading) → AllLines lines → Holds before s → run s lines ≡ Some t → Holds (before ++ lines) t
+run-holds before [] s t each h e = subst (λ (l : List (List ℕ)). Holds l t) (sym (append-nil before)) (subst (Holds before) (some-state s t e) h)
+run-holds before (line ∷ lines) s t each h e = by (step s line) refl e (λ next g. run-holds (before ++ line ∷ []) lines next t each.1 g)
   where
     by : (o : Option Reading) → step s line ≡ o → on o (λ next. run next lines) ≡ Some t → ((next : Reading) → Holds (before ++ line ∷ []) next → run next lines ≡ Some t → Holds ((before ++ line ∷ []) ++ lines) t) → Holds (before ++ line ∷ lines) t
     by None is e more = absurd cc
-    by (Some next) is e more = subst (λ (l : List (List ℕ)). Holds l t) (append_assoc before (line ∷ []) lines) (more next (step-holds before line s next h is) e)
+    by (Some next) is e more = subst (λ (l : List (List ℕ)). Holds l t) (append_assoc before (line ∷ []) lines) (more next (step-holds before line s next each.0 h is) e)
 
-pub taken-holds : (lines : List (List ℕ)) (t : Reading) → run (Between []) lines ≡ Some t → Holds lines t
-taken-holds lines t e = run-holds [] lines (Between []) t record { good = tt; is = refl } e
+pub taken-holds : (lines : List (List ℕ)) (t : Reading) → AllLines lines → run (Between []) lines ≡ Some t → Holds lines t
+taken-holds lines t each e = run-holds [] lines (Between []) t each record { good = tt; is = refl } e
 
 -- lines that are wanting
 abbrev wanting : ℕ → List (List ℕ)
@@ -202,26 +206,31 @@ length-wanting : (n : ℕ) → length (wanting n) ≡ n
 length-wanting zero = refl
 length-wanting (suc n) = ap suc (length-wanting n)
 
+wanting-each : (n : ℕ) → AllLines (wanting n)
+wanting-each zero = tt
+wanting-each (suc n) = (refl, wanting-each n)
+
+-- lines that lead to the end begin a history
+begin : (lines more : List (List ℕ)) (entries : List Entry) → AllHaveText entries → lines ++ more ≡ history_lines entries → BeginHistory lines
+begin lines more entries each is = record { more = more; entries = entries; each = each; is = is ∙ sym (whole-cut entries each).0 }
+
 -- each state can be led to the end
 pub begins : (lines : List (List ℕ)) (s : Reading) → Holds lines s → BeginHistory lines
-begins lines (Between entries) h = record { more = end_line (length entries) ∷ []; entries = entries; each = h.good; is = ap (λ (l : List (List ℕ)). l ++ end_line (length entries) ∷ []) h.is }
-begins lines (Ended entries) h = record { more = []; entries = entries; each = h.good; is = append-nil lines ∙ h.is }
+begins lines (Between entries) h = begin lines (end_line (length entries) ∷ []) entries h.good (ap (λ (l : List (List ℕ)). l ++ end_line (length entries) ∷ []) h.is)
+begins lines (Ended entries) h = begin lines [] entries h.good (append-nil lines ∙ h.is)
 begins lines (Within entries s left got) h =
     let all : List (List ℕ) = got ++ wanting (suc left) in
     let count : length all ≡ length got + suc left = length-append got (wanting (suc left)) ∙ ap (λ (n : ℕ). length got + n) (length-wanting (suc left)) in
     let whole : List Entry = entries ++ Take s all ∷ [] in
-    record {
-      more = map taken_line (wanting (suc left)) ++ end_line (length whole) ∷ [];
-      entries = whole;
-      each = has-append entries (Take s all ∷ []) h.good.0 (subst (λ (n : ℕ). HasName s n) (sym count) h.good.1, tt);
-      is = sym (append_assoc lines (map taken_line (wanting (suc left))) (end_line (length whole) ∷ []))
-          ∙ ap (λ (l : List (List ℕ)). l ++ end_line (length whole) ∷ [])
-          (ap (λ (l : List (List ℕ)). l ++ map taken_line (wanting (suc left))) h.is
-          ∙ append_assoc (lines_from 1 entries) (head_line_of (length entries + 1) (Taking s (length got + suc left)) ∷ map taken_line got) (map taken_line (wanting (suc left)))
-          ∙ ap (λ (l : List (List ℕ)). lines_from 1 entries ++ head_line_of (length entries + 1) (Taking s (length got + suc left)) ∷ l) (sym (map-append taken_line got (wanting (suc left))))
-          ∙ ap (λ (n : ℕ). lines_from 1 entries ++ head_line_of (length entries + 1) (Taking s n) ∷ map taken_line all) (sym count)
-          ∙ sym (from-one entries (Take s all)));
-    }
+    let last : HasText (Take s all) = record { name = subst (λ (n : ℕ). HasName s n) (sym count) h.good.1; each = lines-append got (wanting (suc left)) h.good.2 (wanting-each (suc left)) } in
+    begin lines (map taken_line (wanting (suc left)) ++ end_line (length whole) ∷ []) whole (has-append entries (Take s all ∷ []) h.good.0 (last, tt))
+    (sym (append_assoc lines (map taken_line (wanting (suc left))) (end_line (length whole) ∷ []))
+    ∙ ap (λ (l : List (List ℕ)). l ++ end_line (length whole) ∷ [])
+    (ap (λ (l : List (List ℕ)). l ++ map taken_line (wanting (suc left))) h.is
+    ∙ append_assoc (lines_from 1 entries) (head_line_of (length entries + 1) (Taking s (length got + suc left)) ∷ map taken_line got) (map taken_line (wanting (suc left)))
+    ∙ ap (λ (l : List (List ℕ)). lines_from 1 entries ++ head_line_of (length entries + 1) (Taking s (length got + suc left)) ∷ l) (sym (map-append taken_line got (wanting (suc left))))
+    ∙ ap (λ (n : ℕ). lines_from 1 entries ++ head_line_of (length entries + 1) (Taking s n) ∷ map taken_line all) (sym count)
+    ∙ sym (from-one entries (Take s all))))
 
 abbrev entries_in : Reading → List Entry
 entries_in (Between entries) = entries
@@ -229,8 +238,8 @@ entries_in (Within entries s left got) = entries
 entries_in (Ended entries) = entries
 
 -- the end is reached exactly by the lines of a history
-pub ended-history : (lines : List (List ℕ)) (entries : List Entry) → run (Between []) lines ≡ Some (Ended entries) → AreHistory lines entries
-ended-history lines entries e = let h = taken-holds lines (Ended entries) e in record { each = h.good; is = h.is }
+pub ended-history : (lines : List (List ℕ)) (entries : List Entry) → Holds lines (Ended entries) → AreHistory lines entries
+ended-history lines entries h = record { each = h.good; is = h.is }
 
 pub history-ended : (lines : List (List ℕ)) (entries : List Entry) → AreHistory lines entries → run (Between []) lines ≡ Some (Ended entries)
 history-ended lines entries h = ap (run (Between [])) h.is ∙ history-taken entries h.each

@@ -7,24 +7,25 @@ use Rattle.std.proofs.lemmas.List.{drop-drop, drop_all, length-drop}
 use Rattle.qm_core.specs.declared.entries.Entry.{Entry}
 use Rattle.qm_history.specs.declared.reading.Reading.{Reading, TheVariants.Between, TheVariants.Ended}
 use Rattle.qm_history.specs.Lines.{is_line_feed, AllLines, lines_in, lines_of, left_of}
-use Rattle.qm_history.specs.Histories.{BeginHistory, IsHistory, FirstWrong, wrong, short, history_lines, whole_text_of}
-use Rattle.qm_history.specs.Readings.{AreHistory, ReadsTo, step, on, run}
-use Rattle.qm_history.proofs.LineLaws.{Cut, cut, wont-feed, wont-position, ended, lines-cut, whole-lines, text-back, all-lines}
-use Rattle.qm_history.proofs.ReadingLaws.{run-append, taken-holds, begins, begins-taken, ended-history, history-ended, history-told, some-state}
+use Rattle.qm_history.specs.Histories.{BeginHistory, IsHistory, FirstWrong, wrong, short}
+use Rattle.qm_history.specs.Forms.{AreHistory}
+use Rattle.qm_history.specs.Readings.{ReadsTo, step, on, run}
+use Rattle.qm_history.proofs.LineLaws.{Cut, cut, wont-feed, wont-position, whole-cut, whole-back, all-lines}
+use Rattle.qm_history.proofs.FormLaws.{lines-front}
+use Rattle.qm_history.proofs.ReadingLaws.{Holds, run-append, taken-holds, begins, begins-taken, ended-history, history-ended, history-told, some-state}
 
--- the text of a history by its lines, of which each has its LF
-pub are-history : (text : List ℕ) (entries : List Entry) → IsHistory text entries → AreHistory (lines_of text) entries × (left_of text ≡ [])
+-- the text of a history by its lines
+are-history : (text : List ℕ) (entries : List Entry) → IsHistory text entries → AreHistory (lines_of text) entries × (left_of text ≡ [])
 are-history text entries h =
-    let whole : text ≡ flat_map ended (history_lines entries) = h.is ∙ whole-lines entries in
-    let cut = lines-cut (history_lines entries) h.lines in
-    (record { each = h.each; is = ap lines_of whole ∙ cut.0 }, ap left_of whole ∙ cut.1)
+    let cut = whole-cut entries h.each in
+    (record { each = h.each; is = ap lines_of h.is ∙ cut.0 }, ap left_of h.is ∙ cut.1)
 
-pub is-history : (text : List ℕ) (entries : List Entry) → AreHistory (lines_of text) entries → left_of text ≡ [] → IsHistory text entries
-is-history text entries h none = record {
-  each = h.each;
-  lines = subst AllLines h.is (all-lines text);
-  is = text-back text none ∙ ap (flat_map ended) h.is ∙ sym (whole-lines entries);
-}
+is-history : (text : List ℕ) (entries : List Entry) → AreHistory (lines_of text) entries → left_of text ≡ [] → IsHistory text entries
+is-history text entries h none = record { each = h.each; is = whole-back text entries none h.is }
+
+-- lines before others in a text
+before-each : (text : List ℕ) (before after : List (List ℕ)) → lines_of text ≡ before ++ after → AllLines before
+before-each text before after is = lines-front before after (subst AllLines is (all-lines text))
 
 drop-twice : (n m : ℕ) (text : List ℕ) → drop m (drop n text) ≡ drop (n + m) text
 drop-twice n m text = drop-drop m n text
@@ -49,12 +50,16 @@ reads-next text place line at s next r found e =
       led = more-led r.before one s r.led ∙ ap (λ (o : Option Reading). on o (λ next. Some next)) e;
     }
 
+-- what was read is held by the lines before
+holds : (text : List ℕ) (place line : ℕ) (s : Reading) (r : ReadsTo text place line s) → Holds r.before s
+holds text place line s r = taken-holds r.before s (before-each text r.before _ r.lines) r.led
+
 pub reads-refused : (text : List ℕ) (place line at : ℕ) (s : Reading) → ReadsTo text place line s → position is_line_feed (drop place text) ≡ Some at → step s (take at (drop place text)) ≡ None → FirstWrong text line
 reads-refused text place line at s r found e =
     let c = cut (drop place text) at found in
     let one : List ℕ = take at (drop place text) in
     subst (FirstWrong text) (sym r.count) (wrong r.before (lines_of (drop (at + 1) (drop place text))) one (r.lines ∙ ap (λ (l : List (List ℕ)). r.before ++ l) c.lines)
-    (begins r.before s (taken-holds r.before s r.led))
+    (begins r.before s (holds text place line s r))
     (λ b. begins-taken (r.before ++ one ∷ []) b (more-led r.before one s r.led ∙ ap (λ (o : Option Reading). on o (λ next. Some next)) e)))
 
 -- all lines were taken
@@ -63,7 +68,7 @@ module _ (text : List ℕ) (place line : ℕ) (s : Reading) (r : ReadsTo text pl
   no-more = r.lines ∙ ap (λ (l : List (List ℕ)). r.before ++ l) none ∙ append-nil r.before
 
   reads-short : ((entries : List Entry) → IsHistory text entries → ⊥) → FirstWrong text line
-  reads-short wont = subst (FirstWrong text) (ap (λ (l : List (List ℕ)). length l + 1) no-more ∙ sym r.count) (short (subst BeginHistory (sym no-more) (begins r.before s (taken-holds r.before s r.led))) wont)
+  reads-short wont = subst (FirstWrong text) (ap (λ (l : List (List ℕ)). length l + 1) no-more ∙ sym r.count) (short (subst BeginHistory (sym no-more) (begins r.before s (holds text place line s r))) wont)
 
   ended-as : (entries : List Entry) → IsHistory text entries → s ≡ Ended entries
   ended-as entries h = some-state s (Ended entries) (sym r.led ∙ ap (run (Between [])) (sym no-more) ∙ history-ended (lines_of text) entries (are-history text entries h).0)
@@ -85,7 +90,7 @@ nothing-left text place h = drop_all place text h
 pub reads-whole : (text : List ℕ) (place line : ℕ) (entries : List Entry) → length text ≤ place → ReadsTo text place line (Ended entries) → IsHistory text entries
 reads-whole text place line entries past r =
     let rest = nothing-left text place past in
-    is-history text entries (subst (λ (l : List (List ℕ)). AreHistory l entries) (sym (no-more text place line (Ended entries) r (ap lines_of rest))) (ended-history r.before entries r.led)) (r.left ∙ ap left_of rest)
+    is-history text entries (subst (λ (l : List (List ℕ)). AreHistory l entries) (sym (no-more text place line (Ended entries) r (ap lines_of rest))) (ended-history r.before entries (holds text place line (Ended entries) r))) (r.left ∙ ap left_of rest)
 
 -- one text has one answer
 
@@ -121,7 +126,7 @@ reads-open text place line s past wont r =
     reads-short text place line s r rest (λ others h. wont others (ended-as text place line s r rest others h))
 
 pub history-right : (text : List ℕ) (entries : List Entry) (n : ℕ) → IsHistory text entries → FirstWrong text n → ⊥
-history-right text entries n h (wrong before after line e b wont) = let a = (are-history text entries h).0 in wont record { more = after; entries = entries; each = a.each; is = append_assoc before (line ∷ []) after ∙ sym e ∙ a.is }
+history-right text entries n h (wrong before after line e b wont) = wont record { more = after; entries = entries; each = h.each; is = append_assoc before (line ∷ []) after ∙ sym e ∙ ap lines_of h.is }
 history-right text entries n h (short b wont) = wont entries h
 
 not-all : (text : List ℕ) (before after : List (List ℕ)) (line : List ℕ) → lines_of text ≡ before ++ line ∷ after → (BeginHistory (before ++ line ∷ []) → ⊥) → BeginHistory (lines_of text) → ⊥

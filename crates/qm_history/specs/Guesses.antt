@@ -13,7 +13,7 @@ use Rattle.qm_core.specs.declared.inputs.BadInput.TheVariants as bad
 use Rattle.qm_core.specs.declared.inputs.FrameWord.TheVariants.{LexError, Unbalanced, TooDeep, TooLong}
 use Rattle.qm_core.specs.declared.inputs.Input.TheVariants as input
 use Rattle.qm_core.specs.declared.inputs.JsonWord.TheVariants.{Expected, Duplicate, BadEscape, BadUtf8}
-use Rattle.qm_history.specs.{Histories.HasName, Histories.HasText, Histories.said_of, Words.before_blank, Words.after_blank, Words.session_number}
+use Rattle.qm_history.specs.{Forms.said_of, Histories.HasName, Histories.HasText, Words.before_blank, Words.after_blank, Words.session_number}
 use Rattle.qm_history.specs.declared.guesses.{Answer.Answer, Head.Head, Head.TheVariants.Whole, Head.TheVariants.Taking}
 
 -- the head of an entry

@@ -1,3 +1,4 @@
+pub mod Forms
 pub mod Gathering
 pub mod Guesses
 pub mod Histories

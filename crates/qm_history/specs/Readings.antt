@@ -4,7 +4,7 @@ use Rattle.std.specs.{List.starts_with, Str.bytes_eq}
 use Rattle.qm_core.specs.declared.entries.Entry.{Entry, TheVariants.Take}
 use Rattle.qm_history.specs.declared.guesses.{Head.Head, Head.TheVariants.Whole, Head.TheVariants.Taking}
 use Rattle.qm_history.specs.declared.reading.Reading.{Reading, TheVariants.Between, TheVariants.Within, TheVariants.Ended}
-use Rattle.qm_history.specs.{Guesses.head_in, Histories.AllHaveText, Histories.end_line, Histories.history_lines, Lines.lines_of, Lines.left_of}
+use Rattle.qm_history.specs.{Guesses.head_in, Histories.end_line, Lines.lines_of, Lines.left_of}
 
 -- lines were handed out, of which so many are wanting
 abbrev pub taking : List Entry → ℕ → ℕ → List (List ℕ) → Reading
@@ -31,11 +31,6 @@ on (Some s) next = next s
 abbrev pub run : Reading → List (List ℕ) → Option Reading
 run s [] = Some s
 run s (line ∷ lines) = on (step s line) (λ next. run next lines)
-
--- the lines are those of a history
-pub record AreHistory (lines : List (List ℕ)) (entries : List Entry) : Type 0 where
-  pub each : AllHaveText entries
-  pub is : lines ≡ history_lines entries
 
 -- the lines before a place led to what was read, and there the line of this number begins
 pub record ReadsTo (text : List ℕ) (place line : ℕ) (s : Reading) : Type 0 where

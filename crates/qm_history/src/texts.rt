@@ -1,7 +1,7 @@
 ghost use Rattle.std.specs.Prelude.{◌≡◌, ◌++◌, codes, flat_map, length, OnOk};
 ghost use Rattle.std.specs.Fmt.{decimal};
 ghost use Rattle.qm_core.specs.Texts.{bad_word_of, cause_word_of, entry_text_of, input_text_of, json_word_of, lane_word_of, request_text_of, taken_text_of};
-ghost use Rattle.qm_history.specs.Histories.{answer_of, said_of, taken_by};
+ghost use Rattle.qm_history.specs.Forms.{answer_of, said_of, taken_by};
 
 use itoa::Buffer;
 use qm_base::{NoMemory, Shared, Text};
