@@ -151,4 +151,3 @@ first-told text m n (short b wont) (short d cant) = refl
 
 pub reading-told : (text : List ℕ) (entries others : List Entry) → IsHistory text entries → IsHistory text others → entries ≡ others
 reading-told text entries others h k = history-told (lines_of text) entries others (are-history text entries h).0 (are-history text others k).0
-
