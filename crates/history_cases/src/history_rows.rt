@@ -1,6 +1,6 @@
 //! Texts of whole histories, and texts with a line that cannot stand.
 
-use qm_base::CallList;
+use qm_base::{CallList, Text};
 use qm_core::EntryList;
 use qm_history::{EntryWordList, HistoryRefusal, read_history, write_history};
 use qm_link::MemorySink;
@@ -101,17 +101,20 @@ const REFUSED: [(&str, u32); 33] = [
     ("1 take 1 1\n> a\n> b\nend 1\n", 3),
 ];
 
-fn whole(alloc: Global, text: &str, end: &str) -> Result<qm_base::Text, Fail> {
-    let mut whole = qm_base::Text::of(alloc, text.as_bytes())?;
+fn whole(alloc: Global, text: &str, end: &str) -> Result<Text, Fail> {
+    let mut whole = Text::of(alloc, text.as_bytes())?;
     whole.extend(end.as_bytes())?;
     Ok(whole)
 }
 
 /// The entries as a journal holds them.
 fn journal_of(alloc: Global, entries: EntryWordList) -> Result<EntryList, Fail> {
-    let mut journal = EntryList::new(alloc, entries.len())?;
+    let places = entries.len();
+    let mut journal = EntryList::new(alloc, places)?;
     for entry in entries.into_vec() {
-        journal.put(entry);
+        if journal.len() < places {
+            journal.put(entry);
+        }
     }
     Ok(journal)
 }
