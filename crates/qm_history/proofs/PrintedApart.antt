@@ -257,7 +257,7 @@ closes-object : Closes printed_member is_clean_member 125
 closes-object = record { no_comma = λ e. cc; ends = λ a. refl; begins_none = λ y clean a b e. none a (escapes (code_points y.name)) y b (e ∙ member-text y b) }
   where
     none : (a raw : List ℕ) (y : Member) (b : List ℕ) → 125 ∷ a ≡ quoted y.name ++ (58 ∷ 32 ∷ printed y.value ++ b) → ⊥
-    none a raw y b e = let first : 125 ≡ 34 = ap first_of e in cc
+    none a raw y b e = let first : false ≡ true = ap (λ (t : List ℕ). first_of t == 34) e in cc
 
 object-told : (members : List Member) (w : Json) (a b : List ℕ) → AllByRecursion (λ (m : Member). IsTold printed is_clean m.value) members → is_clean (json.Obj members) ≡ true → is_clean w ≡ true → Sort 123 w → Meets (json.Obj members) w a b → Same (json.Obj members) w a b
 object-told members w a b hs h k (number x v g n) e = absurd cc

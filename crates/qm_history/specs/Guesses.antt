@@ -1,12 +1,12 @@
 -- Which entry a first line may be of. A guess is kept only where its own line is this one, so that it
 -- says nothing of spelling. This serves private functions.
-use Rattle.std.specs.Prelude.{nat_eq, Result, Ok, Err, ℕ, ◌+◌, ◌^◌, ◌<◌, Bool, if◌then◌else◌, List, [], ◌++◌, length, drop, codes, Option, Some, None, option_map}
+use Rattle.std.specs.Prelude.{nat_eq, Result, Ok, Err, ℕ, ◌+◌, ◌^◌, ◌<◌, Bool, if◌then◌else◌, List, [], ◌∷◌, ◌++◌, find, length, drop, codes, Option, Some, None, option_map}
 use Rattle.std.specs.{Fmt.decimal, List.starts_with, Option.option_and_then, Str.bytes_eq}
 use Rattle.qm_base.specs.Numerals.{number_of}
 use Rattle.qm_json.specs.declared.value.Json.{Json}
 use Rattle.qm_read.specs.{declared.fault.JsonFault.JsonFault, Faults.reading_of}
 use Rattle.qm_caps.specs.declared.mode.Lane.{Lane, TheVariants.InBand, TheVariants.Oob}
-use Rattle.qm_core.specs.Texts.{cause_of, request_text_of}
+use Rattle.qm_core.specs.Texts.{cause_of, frame_word_of, lane_word_of, request_text_of}
 use Rattle.qm_core.specs.declared.entries.Entry.{Entry, TheVariants.Open, TheVariants.Admit, TheVariants.Start, TheVariants.Done, TheVariants.OobDone, TheVariants.Take, TheVariants.Eof, TheVariants.Drop}
 use Rattle.qm_core.specs.declared.inputs.{BadInput.BadInput, FrameWord.FrameWord, Input.Input, JsonWord.JsonWord}
 use Rattle.qm_core.specs.declared.inputs.BadInput.TheVariants as bad
@@ -85,16 +85,19 @@ done a = Whole (Done a.session a.number None a.reply a.moment)
 abbrev pub oob_done : Answer → Head
 oob_done a = Whole (OobDone a.session a.number None a.reply a.moment)
 
+-- the lane of a word
+abbrev pub lanes : List Lane
+lanes = InBand ∷ Oob ∷ []
+
 abbrev pub lane_in : List ℕ → Option Lane
-lane_in word = if bytes_eq word (codes "in") then Some InBand else if bytes_eq word (codes "oob") then Some Oob else None
+lane_in word = find (λ lane. bytes_eq word (lane_word_of lane)) lanes
+
+-- the fault of a word
+abbrev pub frame_words : List FrameWord
+frame_words = LexError ∷ Unbalanced ∷ TooDeep ∷ TooLong ∷ []
 
 abbrev pub frame_in : List ℕ → Option FrameWord
-frame_in text =
-    if bytes_eq text (codes "lex-error") then Some LexError
-    else if bytes_eq text (codes "unbalanced") then Some Unbalanced
-    else if bytes_eq text (codes "too-deep") then Some TooDeep
-    else if bytes_eq text (codes "too-long") then Some TooLong
-    else None
+frame_in text = find (λ word. bytes_eq text (frame_word_of word)) frame_words
 
 abbrev pub json_word : List ℕ → ℕ → Option JsonWord
 json_word word place =

@@ -1,4 +1,7 @@
-ghost use Rattle.std.specs.Prelude.{◌≡◌, ◌++◌, IfOk, OnOk, Some, option_map};
+ghost use Rattle.std.specs.Prelude.{◌≡◌, ◌++◌, find, IfOk, OnOk, Some, option_map};
+ghost use Rattle.std.specs.Option.{option_copied};
+ghost use Rattle.std.specs.Str.{bytes_eq};
+ghost use Rattle.qm_core.specs.Texts.{frame_word_of, lane_word_of};
 ghost use Rattle.qm_core.specs.declared.inputs.Input.TheVariants.{Bad};
 ghost use Rattle.qm_history.specs.Guesses.{admit_head as admit_head_of, admit_input as admit_input_of, admit_lane as admit_lane_of, admit_number as admit_number_of, answer_in as answer_in_of, answer_moment as answer_moment_of, answer_number as answer_number_of, answer_value as answer_value_of, bad_in, document_in, done as done_of, drop_head as drop_head_of, eof_head as eof_head_of, frame_in, guess as guess_of, head_in as head_in_of, head_line_of, input_in, json_in, json_word as json_word_in, lane_in, moment_in, oob_done as oob_done_of, open_head as open_head_of, same_line, start_head as start_head_of, take_head as take_head_of, told_by, verb_head as verb_head_of};
 
@@ -6,7 +9,7 @@ use crate::texts::{put_number, put_said, put_word_request};
 use crate::words::{after_blank, before_blank, session};
 use qm_base::{NoMemory, Shared, Text, number};
 use qm_caps::Lane;
-use qm_core::{BadInput, Cause, Entry, FrameWord, Input, JsonWord};
+use qm_core::{BadInput, Cause, Entry, FrameWord, Input, JsonWord, lane_word};
 use qm_json::Json;
 use qm_read::{JsonFault, read};
 use std::alloc::Global;
@@ -167,34 +170,37 @@ fn oob_done(alloc: Global, text: &[u8]) -> Result<Option<Head>, NoMemory>
     }
 }
 
+const LANES: [Lane; 2] = [Lane::InBand, Lane::Oob];
+
+fn lane_among<'a>(lanes: &'a [Lane], word: &[u8]) -> Option<&'a Lane>
+    ensures { option_copied result ≡ find (λ lane. bytes_eq word.now (lane_word_of lane)) lanes.now }
+{
+    lanes.iter().find(|lane| word == lane_word(**lane))
+}
+
 fn lane(word: &[u8]) -> Option<Lane>
     ensures { result ≡ lane_in word.now }
 {
-    if word == b"in".as_slice() {
-        return Some(Lane::InBand);
-    }
-    if word == b"oob".as_slice() {
-        return Some(Lane::Oob);
-    }
-    None
+    lane_among(&LANES, word).copied()
+}
+
+const FRAMES: [FrameWord; 4] = [
+    FrameWord::LexError,
+    FrameWord::Unbalanced,
+    FrameWord::TooDeep,
+    FrameWord::TooLong,
+];
+
+fn frame_among<'a>(words: &'a [FrameWord], text: &[u8]) -> Option<&'a FrameWord>
+    ensures { option_copied result ≡ find (λ word. bytes_eq text.now (frame_word_of word)) words.now }
+{
+    words.iter().find(|word| text == word.word())
 }
 
 fn frame(text: &[u8]) -> Option<FrameWord>
     ensures { result ≡ frame_in text.now }
 {
-    if text == b"lex-error".as_slice() {
-        return Some(FrameWord::LexError);
-    }
-    if text == b"unbalanced".as_slice() {
-        return Some(FrameWord::Unbalanced);
-    }
-    if text == b"too-deep".as_slice() {
-        return Some(FrameWord::TooDeep);
-    }
-    if text == b"too-long".as_slice() {
-        return Some(FrameWord::TooLong);
-    }
-    None
+    frame_among(&FRAMES, text).copied()
 }
 
 fn json_word(word: &[u8], place: u64) -> Option<JsonWord>
