@@ -154,6 +154,10 @@ abbrev EachFollows : World → List Entry → List Entry → Type 0
 EachFollows world past [] = Unit {0}
 EachFollows world past (e ∷ journal) = MayFollow past e × IsAnswer world past e × EachFollows world (e ∷ past) journal
 
+-- the past of a journal, from its first entry on
+pub turned : (e : Entry) (journal past : List Entry) → reverse (e ∷ journal) ++ past ≡ reverse journal ++ e ∷ past
+turned e journal past = ap (λ (l : List Entry). l ++ past) (reverse-append (e ∷ []) journal) ∙ append_assoc (reverse journal) (e ∷ []) past
+
 answers-earlier : (world : World) (later past : List Entry) → AllAnswer world (later ++ past) → AllAnswer world past
 answers-earlier world [] past h = h
 answers-earlier world (x ∷ later) past h = answers-earlier world later past h.1
@@ -161,9 +165,8 @@ answers-earlier world (x ∷ later) past h = answers-earlier world later past h.
 each-follows : (world : World) (journal past : List Entry) → AllFollow (reverse journal ++ past) → AllAnswer world (reverse journal ++ past) → EachFollows world past journal
 each-follows world [] past legal answers = tt
 each-follows world (e ∷ journal) past legal answers =
-    let turned : reverse (e ∷ journal) ++ past ≡ reverse journal ++ e ∷ past = ap (λ (l : List Entry). l ++ past) (reverse-append (e ∷ []) journal) ∙ append_assoc (reverse journal) (e ∷ []) past in
-    let all : AllFollow (reverse journal ++ e ∷ past) = subst AllFollow turned legal in
-    let each : AllAnswer world (reverse journal ++ e ∷ past) = subst (λ l. AllAnswer world l) turned answers in
+    let all : AllFollow (reverse journal ++ e ∷ past) = subst AllFollow (turned e journal past) legal in
+    let each : AllAnswer world (reverse journal ++ e ∷ past) = subst (λ l. AllAnswer world l) (turned e journal past) answers in
     ((earlier (reverse journal) (e ∷ past) all).0, (answers-earlier world (reverse journal) (e ∷ past) each).0, each-follows world journal (e ∷ past) all each)
 
 says : (e : Entry) → first_of (entry_body_of e) ≡ 32

@@ -4,8 +4,10 @@ pub mod EntryLines
 pub mod EntryTexts
 pub mod FormLaws
 pub mod Gathering
+pub mod Greeting
 pub mod GuessLaws
 pub mod JournalTexts
+pub mod LegalTexts
 pub mod LineLaws
 pub mod Numbering
 pub mod PrintedApart

@@ -70,6 +70,22 @@ abbrev pub AllHaveText : List Entry → Type 0
 AllHaveText [] = Unit {0}
 AllHaveText (e ∷ entries) = HasText e × AllHaveText entries
 
+-- the values of a legal journal that can be read back: those that were admitted are clean
+
+abbrev pub IsShallow : Input → Type 0
+IsShallow (Doc value) = depth value ≤ MAX_DEPTH
+IsShallow (Bad bad) = Unit {0}
+
+abbrev pub HasValues : Entry → Type 0
+HasValues (Admit s k lane input) = IsShallow input
+HasValues (Done s k plan reply moment) = HasValue reply
+HasValues (OobDone s k plan reply moment) = HasValue reply
+HasValues e = Unit {0}
+
+abbrev pub AllHaveValues : List Entry → Type 0
+AllHaveValues [] = Unit {0}
+AllHaveValues (e ∷ entries) = HasValues e × AllHaveValues entries
+
 -- the line after the entries, which counts them
 abbrev pub end_line : ℕ → List ℕ
 end_line count = codes "end " ++ decimal count
