@@ -1,7 +1,7 @@
-ghost use Rattle.std.specs.Prelude.{◌≡◌, ◌<◌, ◌≤◌, ◌++◌, [], ◌∷◌, drop, length, position, IfOk, IfSome};
+ghost use Rattle.std.specs.Prelude.{◌≡◌, ℕ, List, Err, ◌<◌, ◌≤◌, ◌+◌, ◌++◌, [], ◌∷◌, drop, length, position, IfOk, IfSome};
 ghost use Rattle.std.specs.Str.{bytes_eq};
 ghost use Rattle.qm_history.specs.declared.reading.Reading.TheVariants.{Between, Within};
-ghost use Rattle.qm_history.specs.Histories.{Reads, end_line};
+ghost use Rattle.qm_history.specs.Histories.{FirstWrong, Reads, end_line};
 ghost use Rattle.qm_history.specs.Lines.{is_line_feed};
 ghost use Rattle.qm_history.specs.Readings.{after_head as after_head_of, step as step_of, taking as taking_of};
 
@@ -165,33 +165,44 @@ fn past(text: &[u8], place: usize) -> &[u8]
     &text[place..]
 }
 
+/// The refusal of the line after so many. A number past 2^32-1 cannot be told.
+fn refusal(lines: usize) -> HistoryRefusal
+    ensures { (text : List ℕ) → FirstWrong text (lines + 1) → Reads text (Err result) }
+{
+    match u32::try_from(lines) {
+        Ok(lines) => match lines.checked_add(1) {
+            Some(line) => HistoryRefusal::Line(line),
+            None => HistoryRefusal::Memory,
+        },
+        Err(_) => HistoryRefusal::Memory,
+    }
+}
+
 /// The entries of which the text is the whole history, without their plans; or the number of the
-/// first line that cannot stand. A line that is wanting, or lacks its LF, cannot stand.
+/// first line that cannot stand. A line that is wanting, or lacks its LF, cannot stand. A number
+/// past 2^32-1 is told as want of memory.
 pub fn read_history(alloc: Global, text: &[u8]) -> Result<EntryWordList, HistoryRefusal>
     ensures { Reads text.now result }
 {
     let mut reading = Reading::Between(EntryWordList::new(alloc));
     let mut place = 0;
-    let mut line = 1u32;
+    let mut lines = 0;
     while place < text.len() {
         let rest = past(text, place);
         let at = match line_feed_at(rest) {
             Some(at) => at,
-            None => return Err(HistoryRefusal::Line(line)),
+            None => return Err(refusal(lines)),
         };
         match step(alloc, reading, &rest[..at]) {
             Ok(Some(next)) => reading = next,
-            Ok(None) => return Err(HistoryRefusal::Line(line)),
+            Ok(None) => return Err(refusal(lines)),
             Err(NoMemory) => return Err(HistoryRefusal::Memory),
         }
         place += at + 1;
-        line = match line.checked_add(1) {
-            Some(line) => line,
-            None => return Err(HistoryRefusal::Memory),
-        };
+        lines += 1;
     }
     match reading {
         Reading::Ended(entries) => Ok(entries),
-        _ => Err(HistoryRefusal::Line(line)),
+        _ => Err(refusal(lines)),
     }
 }

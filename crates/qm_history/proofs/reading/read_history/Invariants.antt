@@ -1,4 +1,4 @@
-use Rattle.std.proofs.Common.{◌-◌, ◌≤◌, length}
+use Rattle.std.proofs.Common.{◌+◌, ◌-◌, ◌≤◌, length}
 use Rattle.qm_history.specs.Readings.{ReadsTo}
 use Rattle.qm_history.proofs.reading.read_history.Given as goal
 
@@ -6,7 +6,8 @@ use Rattle.qm_history.proofs.reading.read_history.Given as goal
 abbrev pub invariant-loop-place : goal.invariant-loop-place
 invariant-loop-place l = record {
   within : l.place ≤ length l.text;
-  so_far : ReadsTo l.text l.place l.line l.reading;
+  few : l.lines ≤ l.place;
+  so_far : ReadsTo l.text l.place (l.lines + 1) l.reading;
 }
 
 abbrev pub decreases-loop-place : goal.decreases-loop-place
