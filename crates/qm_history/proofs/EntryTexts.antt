@@ -1,5 +1,5 @@
 -- What the text of an entry tells of it.
-use Rattle.std.proofs.Common.{◌≡◌, ℕ, ◌+◌, ◌*◌, ◌^◌, ◌<◌, ◌≤◌, ◌%◌, true, false, ◌==◌, List, [], ◌∷◌, ◌++◌, length, drop, codes, Some, refl, ap, sym, ◌∙◌, subst, arith, append_assoc}
+use Rattle.std.proofs.Common.{◌≡◌, ℕ, ◌+◌, ◌*◌, ◌^◌, ◌<◌, true, false, ◌==◌, List, ◌∷◌, ◌++◌, length, drop, codes, Some, refl, ap, sym, ◌∙◌, subst, append_assoc}
 use Rattle.std.specs.Fmt.{decimal}
 use Rattle.std.specs.List.{flat_map}
 use Rattle.std.proofs.lemmas.Fmt.{decimal_injective}

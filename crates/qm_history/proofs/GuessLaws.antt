@@ -1,5 +1,5 @@
 -- First lines of entries: what is printed is read, and what is read was printed.
-use Rattle.std.proofs.Common.{◌≡◌, ℕ, ◌+◌, ◌^◌, ◌<◌, ◌≤◌, Bool, true, false, not, cond, ◌&&◌, ◌==◌, nat_lt, List, [], ◌∷◌, ◌++◌, length, drop, codes, Option, Some, None, option_map, Result, Ok, Err, refl, ap, sym, ◌∙◌, subst, arith, append_assoc}
+use Rattle.std.proofs.Common.{◌≡◌, ℕ, ◌^◌, ◌<◌, Bool, true, false, cond, ◌&&◌, ◌==◌, nat_lt, List, [], ◌∷◌, ◌++◌, drop, codes, Option, Some, None, option_map, Result, Ok, Err, refl, ap, sym, ◌∙◌, subst, arith, append_assoc}
 use Rattle.std.specs.Prelude.{nat_eq}
 use Rattle.std.specs.Char.{is_ascii_digit}
 use Rattle.std.specs.Fmt.{decimal}
@@ -35,8 +35,8 @@ use Rattle.qm_core.specs.declared.entries.Entry.{Entry, TheVariants.Open, TheVar
 use Rattle.qm_history.specs.declared.guesses.{Answer.Answer, Head.Head, Head.TheVariants.Whole, Head.TheVariants.Taking}
 use Rattle.qm_history.specs.Words.{before_blank, after_blank, below, session_number}
 use Rattle.qm_history.specs.Histories.{HasName, HasValue, HasAnswer, HasInput, HasAdmission, HasText, end_line}
-use Rattle.qm_history.specs.Forms.{answer_of, said_of, first_line_of, taken_line}
-use Rattle.qm_history.specs.Guesses.{head_of, told_by, head_line_of, IsHead, open_head, eof_head, start_head, take_head, drop_head, moment_in, read_value, value_in, answer_value, answer_moment, answer_number, answer_in, done, oob_done, lane_in, frame_in, json_word, json_in, bad_or, bad_in, document_in, input_in, admit_input, admit_lane, admit_number, admit_head, verb_head, guess, same_line, head_in}
+use Rattle.qm_history.specs.Forms.{answer_of, first_line_of, taken_line}
+use Rattle.qm_history.specs.Guesses.{head_of, told_by, head_line_of, IsHead, start_head, take_head, drop_head, moment_in, read_value, value_in, answer_value, answer_moment, answer_number, answer_in, done, oob_done, lane_in, frame_in, json_word, json_in, bad_or, bad_in, document_in, input_in, admit_input, admit_lane, admit_number, admit_head, verb_head, guess, same_line, head_in}
 use Rattle.qm_history.proofs.Digits.{all_digits}
 use Rattle.qm_history.proofs.EntryTexts.{cause-found}
 use Rattle.qm_history.proofs.PrintedApart.{printed-begins}

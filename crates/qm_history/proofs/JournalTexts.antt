@@ -6,12 +6,10 @@ use Rattle.qm_json.specs.declared.value.Json.{Json}
 use Rattle.qm_json.specs.Printing.{printed}
 use Rattle.qm_plan.specs.declared.recipes.Plan.{Plan}
 use Rattle.qm_caps.specs.declared.mode.Lane.{Lane}
-use Rattle.qm_core.specs.Answers.{IsAnswered, IsAnswer, AllAnswer, reply_of}
+use Rattle.qm_core.specs.Answers.{IsAnswered, IsAnswer, AllAnswer}
 use Rattle.qm_core.specs.Legal.{AllFollow, IsLegal}
 use Rattle.qm_core.specs.Order.{MayFollow, MayAdmit, MayStart, MayFinish, MayFinishOob, MayTake, MayEnd, MayDrop}
-use Rattle.qm_core.specs.Planned.{planned_of}
 use Rattle.qm_core.specs.Standing.{is_open, admitted_of, running_of, open_out_of_band_of, starting_of, named_of}
-use Rattle.qm_core.specs.State.{store_of}
 use Rattle.qm_core.specs.Texts.{lane_word_of, input_text_of, cause_word_of, entry_body_of, text_from, text_of}
 use Rattle.qm_core.specs.Transcript.{untaken_of}
 use Rattle.qm_core.specs.declared.entries.Cause.{Cause}

@@ -1,21 +1,20 @@
 -- The entries of a legal journal have a text, where its values can be read back.
-use Rattle.std.proofs.Common.{◌≡◌, ℕ, ◌+◌, ◌-◌, ◌^◌, ◌<◌, ◌≤◌, zero, suc, Bool, true, false, not, cond, List, [], ◌∷◌, ◌++◌, length, map, drop, reverse, Option, Some, refl, ap, sym, ◌∙◌, subst, arith, append-nil, length-append}
+use Rattle.std.proofs.Common.{◌≡◌, ℕ, ◌+◌, ◌^◌, ◌<◌, ◌≤◌, zero, suc, Bool, true, false, not, cond, List, [], ◌∷◌, ◌++◌, length, map, drop, reverse, Option, Some, refl, ap, sym, subst, arith, append-nil, length-append}
 use Rattle.std.specs.List.{take_while}
 use Rattle.std.proofs.lemmas.List.{length-drop, length-map, map-append}
 use Rattle.std.proofs.lemmas.List.Sums.{take_while-cons}
 use Rattle.qm_caps.specs.declared.mode.Lane.{Lane, TheVariants.InBand}
 use Rattle.qm_core.specs.Legal.{AllFollow, IsLegal}
 use Rattle.qm_core.specs.Order.{MayFollow, MayAdmit}
-use Rattle.qm_core.specs.Inputs.{lane_of}
-use Rattle.qm_core.specs.Standing.{is_open, admitted_of, mode_of, running_of, open_out_of_band_of, named_of}
+use Rattle.qm_core.specs.Standing.{is_open, running_of, open_out_of_band_of, named_of}
 use Rattle.qm_core.specs.Transcript.{Candidate, passes_limit, lines_in as candidate_lines, with_line, candidates_of, transcript_of, taken_of, untaken_of}
 use Rattle.qm_core.specs.declared.entries.Entry.{Entry, TheVariants.Open, TheVariants.Admit, TheVariants.Start, TheVariants.Done, TheVariants.OobDone, TheVariants.Take, TheVariants.Eof, TheVariants.Drop}
 use Rattle.qm_core.specs.declared.inputs.Input.{Input, TheVariants.Doc, TheVariants.Bad}
-use Rattle.qm_core.specs.declared.requests.{Request.Request, RequestName.RequestName}
+use Rattle.qm_core.specs.declared.requests.{Request.Request}
 use Rattle.qm_core.specs.declared.world.World.{World}
 use Rattle.qm_core.proofs.Holding.{Each, Holding, IsGood, hold, none-held}
 use Rattle.qm_core.proofs.Journals.{earlier}
-use Rattle.qm_core.proofs.Pasts.{open_opened, opened-within, few-sessions, few-admitted, named, begins, start-opened}
+use Rattle.qm_core.proofs.Pasts.{open_opened, opened-within, few-sessions, few-admitted, named, begins}
 use Rattle.qm_history.specs.Lines.{IsLine, AllLines}
 use Rattle.qm_history.specs.Histories.{without_plan, HasName, HasInput, HasText, AllHaveText, IsShallow, HasValues, AllHaveValues, IsHistory, whole_text_of}
 use Rattle.qm_history.proofs.EntryLines.{whole-told}
@@ -101,9 +100,10 @@ candidates-are s (Drop t cause ∷ past) h = same-lines (candidates_of s past) (
 untaken-lines : (s : ℕ) (past : List Entry) → AllHaveValues past → AllLines (untaken_of s past) × (length (untaken_of s past) ≤ length past)
 untaken-lines s past h =
     let are = candidates-are s past h in
-    let front = while-lines _ (candidates_of s past) are.each in
-    (drop-lines (length (taken_of s past)) (transcript_of s past) front.0,
-    omega (arith, are.few, front.1, length-drop (length (taken_of s past)) (transcript_of s past), length-map (take_while (λ c. not c.overruns) (candidates_of s past)) (λ (c : Candidate). c.line)))
+    let front = while-lines _ (candidates_of s past) are.each in (
+      drop-lines (length (taken_of s past)) (transcript_of s past) front.0,
+      omega (arith, are.few, front.1, length-drop (length (taken_of s past)) (transcript_of s past), length-map (take_while (λ c. not c.overruns) (candidates_of s past)) (λ (c : Candidate). c.line)),
+    )
 
 -- entries
 

@@ -1,16 +1,16 @@
 -- The lines of a text, and the text of lines.
-use Rattle.std.proofs.Common.{◌≡◌, ℕ, ◌+◌, ◌<◌, ◌≤◌, zero, suc, Bool, true, false, cond, ◌==◌, List, [], ◌∷◌, ◌++◌, length, map, take, drop, get_or, codes, Option, Some, None, position, refl, ap, sym, ◌∙◌, arith, append_assoc, append-nil}
+use Rattle.std.proofs.Common.{◌≡◌, ℕ, ◌+◌, ◌<◌, ◌≤◌, zero, suc, Bool, true, false, cond, List, [], ◌∷◌, ◌++◌, length, map, take, drop, get_or, codes, Option, Some, None, position, refl, ap, sym, ◌∙◌, arith, append_assoc, append-nil}
 use Rattle.std.specs.Prelude.{nat_lt}
 use Rattle.std.specs.Fmt.{decimal}
 use Rattle.std.specs.List.{flat_map, list_all, position_or_len}
-use Rattle.std.proofs.lemmas.Bool.{and_parts, and_from, cond-true, cond-false, cond_both, not-true}
+use Rattle.std.proofs.lemmas.Bool.{and_parts, cond-true, cond-false, not-true}
 use Rattle.std.proofs.lemmas.Bool.Decides.{nat_tests}
 use Rattle.std.proofs.lemmas.Grind.{flat_map-append}
 use Rattle.std.proofs.lemmas.List.Sums.{fails_before_first}
 use Rattle.std.proofs.lemmas.List.Quantifiers.{position-Some}
 use Rattle.qm_core.specs.Texts.{entry_text_of, text_from, taken_text_of}
 use Rattle.qm_core.specs.declared.entries.Entry.{Entry}
-use Rattle.qm_history.specs.Lines.{is_line_feed, stays_in_line, is_one_line, IsLine, AllLines, lines_in, left_in, lines_of, left_of}
+use Rattle.qm_history.specs.Lines.{is_line_feed, stays_in_line, IsLine, AllLines, lines_in, left_in, lines_of, left_of}
 use Rattle.qm_history.specs.Forms.{said_of, first_line_of, taken_by, taken_line, lines_from, history_lines}
 use Rattle.qm_history.specs.Histories.{AllHaveText, end_line, whole_text_of}
 use Rattle.qm_history.proofs.FormLaws.{history-each}

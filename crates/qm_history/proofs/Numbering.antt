@@ -1,5 +1,5 @@
 -- The text of a journal by its parts.
-use Rattle.std.proofs.Common.{◌≡◌, ℕ, ◌+◌, ◌<◌, ◌≤◌, List, [], ◌∷◌, ◌++◌, length, take, drop, arith, append_assoc, get_or}
+use Rattle.std.proofs.Common.{◌≡◌, ℕ, ◌+◌, ◌<◌, ◌≤◌, List, [], ◌∷◌, ◌++◌, length, take, drop, arith, get_or}
 use Rattle.std.proofs.lemmas.Grind.{common_steps}
 use Rattle.qm_base.specs.Prefixes.{IsPrefix}
 use Rattle.qm_core.specs.{Texts.text_from, Texts.text_of, Texts.entry_text_of, declared.entries.Entry.Entry}

@@ -1,6 +1,6 @@
 -- The printed text of a clean value tells the value, nested as deep as it may be, and whatever
 -- follows the text, so long as no number or word goes on with it.
-use Rattle.std.proofs.Common.{◌≡◌, ℕ, Bool, true, false, not, cond, ◌&&◌, ◌||◌, ◌==◌, List, [], ◌∷◌, ◌++◌, length, map, drop, codes, Some, Result, Ok, IsUtf8, refl, ap, sym, ◌∙◌, subst, arith, append_assoc, append-nil}
+use Rattle.std.proofs.Common.{◌≡◌, ℕ, Bool, true, false, not, cond, ◌||◌, ◌==◌, List, [], ◌∷◌, ◌++◌, length, map, drop, codes, Some, Result, Ok, refl, ap, sym, ◌∙◌, subst, arith, append_assoc, append-nil}
 use Rattle.std.specs.Prelude.{ℤ, None}
 use Rattle.std.specs.Fmt.{signed_decimal}
 use Rattle.std.specs.List.{list_all, flat_map, AllByRecursion}
@@ -19,7 +19,7 @@ use Rattle.qm_json.specs.Printing.{printed, printed_member, after_comma, joined}
 use Rattle.qm_json.specs.Strings.{code_points, escapes, quoted}
 use Rattle.qm_json.proofs.CleanLaws.{is_clean-Int, is_clean-Num, is_clean-Str, is_clean-Arr, is_clean-Obj, is_clean_member-is}
 use Rattle.qm_json.proofs.Distinct.{names}
-use Rattle.qm_json.proofs.Inductions.{Inductive, every-Json}
+use Rattle.qm_json.proofs.Inductions.{every-Json}
 use Rattle.qm_json.proofs.PrintLaws.{printed-Null, printed-Bool, printed-Int, printed-Num, printed-Str, printed-Arr, printed-Obj, printed_member-is}
 use Rattle.qm_json.proofs.Wholes.{literal-printed, whole_of-printed}
 use Rattle.qm_read.specs.declared.fault.JsonFault.{JsonFault}

@@ -1,5 +1,5 @@
 -- The printed text of a clean value is one line.
-use Rattle.std.proofs.Common.{◌≡◌, ℕ, ◌/◌, ◌%◌, Bool, true, false, not, cond, ◌&&◌, ◌||◌, ◌==◌, nat_lt, nat_le, List, [], ◌∷◌, ◌++◌, map, codes, refl, ap, sym, ◌∙◌, arith}
+use Rattle.std.proofs.Common.{◌≡◌, ℕ, ◌/◌, ◌%◌, Bool, true, false, ◌||◌, ◌==◌, nat_lt, nat_le, List, [], ◌∷◌, ◌++◌, map, codes, refl, ap, sym, ◌∙◌, arith}
 use Rattle.std.specs.Char.Escape.{encode_utf16}
 use Rattle.std.specs.List.{list_all, flat_map, AllByRecursion}
 use Rattle.std.specs.Str.{is_utf8}
@@ -15,7 +15,7 @@ use Rattle.qm_json.specs.Printing.{printed, printed_member, after_comma, joined}
 use Rattle.qm_json.specs.Strings.{code_points, escaped, escapes, hex_digit, unit_escape, unicode_escape, plain_or_unicode, quoted}
 use Rattle.qm_json.proofs.CleanLaws.{is_clean-Arr, is_clean-Obj, is_clean_member-is}
 use Rattle.qm_json.proofs.Distinct.{names}
-use Rattle.qm_json.proofs.Inductions.{Inductive, every-Json}
+use Rattle.qm_json.proofs.Inductions.{every-Json}
 use Rattle.qm_json.proofs.PrintLaws.{printed-Null, printed-Bool, printed-Str, printed-Arr, printed-Obj, printed_member-is}
 use Rattle.qm_history.specs.Lines.{stays_in_line, is_one_line, IsLine}
 use Rattle.qm_read.proofs.NumberBytes.{literal-run}

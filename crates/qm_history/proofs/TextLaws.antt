@@ -1,16 +1,15 @@
 -- Reading a text line by line.
-use Rattle.std.proofs.Common.{◌≡◌, ℕ, ◌+◌, ◌<◌, ◌≤◌, zero, suc, Bool, true, false, List, [], ◌∷◌, ◌++◌, length, take, drop, Option, Some, None, position, refl, ap, sym, ◌∙◌, subst, arith, append_assoc, append-nil, length-append}
+use Rattle.std.proofs.Common.{◌≡◌, ℕ, ◌+◌, ◌<◌, ◌≤◌, Bool, true, false, List, [], ◌∷◌, ◌++◌, length, take, drop, Option, Some, None, position, refl, ap, sym, ◌∙◌, subst, arith, append_assoc, append-nil, length-append}
 use Rattle.std.specs.Prelude.{nat_lt}
-use Rattle.std.specs.List.{flat_map}
 use Rattle.std.proofs.lemmas.Bool.Decides.{nat_tests}
 use Rattle.std.proofs.lemmas.List.{drop-drop, drop_all, length-drop}
 use Rattle.qm_core.specs.declared.entries.Entry.{Entry}
 use Rattle.qm_history.specs.declared.reading.Reading.{Reading, TheVariants.Between, TheVariants.Ended}
-use Rattle.qm_history.specs.Lines.{is_line_feed, AllLines, lines_in, lines_of, left_of}
+use Rattle.qm_history.specs.Lines.{is_line_feed, AllLines, lines_of, left_of}
 use Rattle.qm_history.specs.Histories.{BeginHistory, IsHistory, FirstWrong, wrong, short}
 use Rattle.qm_history.specs.Forms.{AreHistory}
 use Rattle.qm_history.specs.Readings.{ReadsTo, step, on, run}
-use Rattle.qm_history.proofs.LineLaws.{Cut, cut, wont-feed, wont-position, whole-cut, whole-back, all-lines}
+use Rattle.qm_history.proofs.LineLaws.{cut, wont-feed, wont-position, whole-cut, whole-back, all-lines}
 use Rattle.qm_history.proofs.FormLaws.{lines-front}
 use Rattle.qm_history.proofs.ReadingLaws.{Holds, run-append, taken-holds, begins, begins-taken, ended-history, history-ended, history-told, some-state}
 

@@ -1,6 +1,6 @@
 -- Which entry a first line may be of. A guess is kept only where its own line is this one, so that it
 -- says nothing of spelling. This serves private functions.
-use Rattle.std.specs.Prelude.{nat_eq, Result, Ok, Err, ℕ, ◌+◌, ◌^◌, ◌<◌, Bool, if◌then◌else◌, List, [], ◌∷◌, ◌++◌, find, length, drop, codes, Option, Some, None, option_map}
+use Rattle.std.specs.Prelude.{nat_eq, Result, Ok, Err, ℕ, if◌then◌else◌, List, [], ◌∷◌, ◌++◌, find, length, drop, codes, Option, Some, None, option_map}
 use Rattle.std.specs.{Fmt.decimal, List.starts_with, Option.option_and_then, Str.bytes_eq}
 use Rattle.qm_base.specs.Numerals.{number_of}
 use Rattle.qm_json.specs.declared.value.Json.{Json}
