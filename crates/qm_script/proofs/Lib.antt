@@ -1,4 +1,5 @@
 pub mod FedLemmas
+pub mod FrameLemmas
 pub mod LegalPlays
 pub mod LineLemmas
 pub mod LineSteps

@@ -4,9 +4,9 @@ use Rattle.std.specs.{Option.option_and_then, Option.option_or, Str.bytes_eq, St
 use Rattle.std.proofs.lemmas.Bool.Decides.{nat_tests}
 use Rattle.qm_base.specs.Numerals.{is_numeral, number_of}
 use Rattle.qm_core.specs.{Texts.cause_of, declared.entries.Cause.Cause}
-use Rattle.qm_script.specs.Orders.{after_blank, after_word, before_blank, drop_order, feed_order, is_blank, is_hex, long_order_of, order_of, session_after, session_number, text_order}
+use Rattle.qm_script.specs.Orders.{after_blank, after_word, before_blank, drop_order, feed_order, is_blank, is_hex, long_order_of, oob_order, order_of, session_after, session_number, text_order}
 use Rattle.qm_script.specs.declared.orders.Order.{Order}
-use Rattle.qm_script.specs.declared.orders.Order.TheVariants.{Open, Text, Feed, Admit, Start, Finish, Take, Eof, Drop}
+use Rattle.qm_script.specs.declared.orders.Order.TheVariants.{Open, Text, Feed, Admit, Start, Finish, Oob, Take, Eof, Drop}
 
 abbrev pub IsSmall : Order → Type 0
 IsSmall Open = Unit {0}
@@ -15,6 +15,7 @@ IsSmall (Feed s) = Unit {0}
 IsSmall (Admit s) = Unit {0}
 IsSmall Start = Unit {0}
 IsSmall (Finish moment) = moment < 2 ^ 64
+IsSmall (Oob s moment) = moment < 2 ^ 64
 IsSmall (Take s) = Unit {0}
 IsSmall (Eof s) = Unit {0}
 IsSmall (Drop s cause) = Unit {0}
@@ -45,16 +46,30 @@ dropped : (session : Option ℕ) (cause : Option Cause) → IfSome (option_and_t
 dropped None cause = tt
 dropped (Some s) cause = each (λ c. Drop s c) cause (λ c. tt)
 
-numbered : (text : List ℕ) (test : Bool) → nat_lt (digits_value 10 text) (2 ^ 64) ≡ test → (numeral : Bool) →
-    IfSome (option_map Finish (cond (numeral && test) (Some (digits_value 10 text)) None)) IsSmall
-numbered text true below true = grind (arith, nat_tests)
-numbered text true below false = tt
-numbered text false below true = tt
-numbered text false below false = tt
+below : (text : List ℕ) (test : Bool) → nat_lt (digits_value 10 text) (2 ^ 64) ≡ test → (numeral : Bool) →
+    IfSome (cond (numeral && test) (Some (digits_value 10 text)) None) (λ n. n < 2 ^ 64)
+below text true small true = grind (arith, nat_tests)
+below text true small false = tt
+below text false small true = tt
+below text false small false = tt
+
+number-small : (text : List ℕ) → IfSome (number_of text) (λ n. n < 2 ^ 64)
+number-small text = below text (nat_lt (digits_value 10 text) (2 ^ 64)) refl (is_numeral text)
+
+moment : (order : ℕ → Order) (n : Option ℕ) → ((m : ℕ) → m < 2 ^ 64 → IsSmall (order m)) → IfSome n (λ m. m < 2 ^ 64) → IfSome (option_map order n) IsSmall
+moment order None small h = tt
+moment order (Some m) small h = small m h
 
 finished : (text : Option (List ℕ)) → IfSome (option_map Finish (option_and_then number_of text)) IsSmall
 finished None = tt
-finished (Some text) = numbered text (nat_lt (digits_value 10 text) (2 ^ 64)) refl (is_numeral text)
+finished (Some text) = moment Finish (number_of text) (λ m h. h) (number-small text)
+
+ended : (session moment : Option ℕ) → IfSome moment (λ m. m < 2 ^ 64) → IfSome (option_and_then (λ s. option_map (λ m. Oob s m) moment) session) IsSmall
+ended None n small = tt
+ended (Some s) n small = moment (λ m. Oob s m) n (λ m h. h) small
+
+oob-small : (text : List ℕ) → IfSome (oob_order text) IsSmall
+oob-small text = ended (session_number (before_blank text)) (number_of (after_blank text)) (number-small (after_blank text))
 
 -- a moment in the order of a line has 64 bits
 pub order-small : (line : List ℕ) → IfSome (order_of line) IsSmall
@@ -64,6 +79,7 @@ order-small line =
     (either _ _ (then_each feed_order (after_word (codes "feed ") line) feed-small)
     (either _ _ (each Admit (session_after (codes "admit ") line) (λ s. tt))
     (either _ _ (finished (after_word (codes "finish ") line))
+    (either _ _ (then_each oob_order (after_word (codes "oob ") line) oob-small)
     (either _ _ (each Take (session_after (codes "take ") line) (λ s. tt))
     (either _ _ (each Eof (session_after (codes "eof ") line) (λ s. tt))
-    (then_each drop_order (after_word (codes "drop ") line) (λ text. dropped (session_number (before_blank text)) (cause_of (after_blank text)))))))))))
+    (then_each drop_order (after_word (codes "drop ") line) (λ text. dropped (session_number (before_blank text)) (cause_of (after_blank text))))))))))))

@@ -12,11 +12,14 @@ abbrev pub stop_of : StepFault → Stop
 stop_of fault.NoSession = Step word.NoSession
 stop_of fault.Closed = Step word.Closed
 stop_of fault.InputEnded = Step word.InputEnded
+stop_of fault.OobOpen = Step word.OobOpen
 stop_of fault.Busy = Step word.Busy
 stop_of fault.Nothing = Step word.Nothing
 stop_of fault.NotRunning = Step word.NotRunning
+stop_of fault.NotOpen = Step word.NotOpen
 stop_of fault.NotDrained = Step word.NotDrained
 stop_of fault.WrongCause = Step word.WrongCause
+stop_of fault.Stopping = Step word.Stopping
 stop_of fault.SessionsFull = SessionsFull
 stop_of fault.JournalFull = JournalFull
 stop_of fault.Memory = BadLine
@@ -25,11 +28,14 @@ abbrev pub step_word_of : StepWord → List ℕ
 step_word_of word.NoSession = codes "no-session"
 step_word_of word.Closed = codes "closed"
 step_word_of word.InputEnded = codes "input-ended"
+step_word_of word.OobOpen = codes "oob-open"
 step_word_of word.Busy = codes "busy"
 step_word_of word.Nothing = codes "nothing"
 step_word_of word.NotRunning = codes "not-running"
+step_word_of word.NotOpen = codes "not-open"
 step_word_of word.NotDrained = codes "not-drained"
 step_word_of word.WrongCause = codes "wrong-cause"
+step_word_of word.Stopping = codes "stopping"
 step_word_of word.NoFrame = codes "no-frame"
 
 abbrev pub stop_word_of : Stop → List ℕ

@@ -3,7 +3,7 @@ use Rattle.std.specs.Prelude.{ℕ, ◌+◌, ◌*◌, ◌^◌, ◌-◌, ◌%◌, 
 use Rattle.std.specs.{List.starts_with, List.list_all, Option.option_and_then, Option.option_or, Str.bytes_eq}
 use Rattle.qm_base.specs.Numerals.{number_of}
 use Rattle.qm_core.specs.Texts.{cause_of}
-use Rattle.qm_script.specs.declared.orders.Order.{Order, TheVariants.Open, TheVariants.Text, TheVariants.Feed, TheVariants.Admit, TheVariants.Start, TheVariants.Finish, TheVariants.Take, TheVariants.Eof, TheVariants.Drop}
+use Rattle.qm_script.specs.declared.orders.Order.{Order, TheVariants.Open, TheVariants.Text, TheVariants.Feed, TheVariants.Admit, TheVariants.Start, TheVariants.Finish, TheVariants.Oob, TheVariants.Take, TheVariants.Eof, TheVariants.Drop}
 
 -- what follows a word at the front of a line
 abbrev pub after_word : List ℕ → List ℕ → Option (List ℕ)
@@ -63,6 +63,10 @@ feed_order text = if is_hex (after_blank text) then option_map Feed (session_num
 abbrev pub drop_order : List ℕ → Option Order
 drop_order text = option_and_then (λ s. option_map (λ c. Drop s c) (cause_of (after_blank text))) (session_number (before_blank text))
 
+-- `S M`
+abbrev pub oob_order : List ℕ → Option Order
+oob_order text = option_and_then (λ s. option_map (λ m. Oob s m) (number_of (after_blank text))) (session_number (before_blank text))
+
 -- the session number that follows a word
 abbrev pub session_after : List ℕ → List ℕ → Option ℕ
 session_after word line = option_and_then session_number (after_word word line)
@@ -74,9 +78,10 @@ long_order_of line =
     (option_or (option_and_then feed_order (after_word (codes "feed ") line))
     (option_or (option_map Admit (session_after (codes "admit ") line))
     (option_or (option_map Finish (option_and_then number_of (after_word (codes "finish ") line)))
+    (option_or (option_and_then oob_order (after_word (codes "oob ") line))
     (option_or (option_map Take (session_after (codes "take ") line))
     (option_or (option_map Eof (session_after (codes "eof ") line))
-    (option_and_then drop_order (after_word (codes "drop ") line)))))))
+    (option_and_then drop_order (after_word (codes "drop ") line))))))))
 
 -- the order of a line; None for any other line
 abbrev pub order_of : List ℕ → Option Order

@@ -13,11 +13,14 @@ fn step_word(word: StepWord) -> &'static [u8]
         StepWord::NoSession => b"no-session",
         StepWord::Closed => b"closed",
         StepWord::InputEnded => b"input-ended",
+        StepWord::OobOpen => b"oob-open",
         StepWord::Busy => b"busy",
         StepWord::Nothing => b"nothing",
         StepWord::NotRunning => b"not-running",
+        StepWord::NotOpen => b"not-open",
         StepWord::NotDrained => b"not-drained",
         StepWord::WrongCause => b"wrong-cause",
+        StepWord::Stopping => b"stopping",
         StepWord::NoFrame => b"no-frame",
     }
 }

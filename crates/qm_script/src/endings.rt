@@ -7,16 +7,22 @@ pub enum StepWord {
     Closed,
     /// The session's input has ended.
     InputEnded,
+    /// A request of the session is open out of band.
+    OobOpen,
     /// As many requests of the session wait or run as its mode allows.
     Busy,
     /// There is nothing to start or to take.
     Nothing,
     /// No request is running.
     NotRunning,
+    /// No request of the session is open out of band.
+    NotOpen,
     /// The session's input has not ended, or not all was answered and taken.
     NotDrained,
     /// The cause does not hold.
     WrongCause,
+    /// A command has stopped the monitor.
+    Stopping,
     /// The bytes that were fed hold no further frame.
     NoFrame,
 }

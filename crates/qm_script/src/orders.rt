@@ -1,6 +1,6 @@
 ghost use Rattle.std.specs.Prelude.{◌≡◌, ◌<◌, length, position, IfSome, option_map, codes, Option, Some};
 ghost use Rattle.std.specs.Option.{option_copied, option_and_then};
-ghost use Rattle.qm_script.specs.Orders.{after_word as after_word_of, before_blank as before_blank_of, after_blank as after_blank_of, is_blank, session_number, session_after as session_after_of, long_order_of, text_order as text_order_of, feed_order as feed_order_of, drop_order as drop_order_of, order_of, is_skipped as is_skipped_line, fed_by as fed_by_of};
+ghost use Rattle.qm_script.specs.Orders.{after_word as after_word_of, before_blank as before_blank_of, after_blank as after_blank_of, is_blank, session_number, session_after as session_after_of, long_order_of, text_order as text_order_of, feed_order as feed_order_of, oob_order as oob_order_of, drop_order as drop_order_of, order_of, is_skipped as is_skipped_line, fed_by as fed_by_of};
 ghost use Rattle.qm_script.specs.declared.orders.Order.TheVariants.{Admit, Finish, Take, Eof};
 ghost use Rattle.qm_base.specs.Numerals.{number_of};
 
@@ -23,6 +23,8 @@ pub enum Order {
     Start,
     /// `finish M`: finishes the running request at a moment, in microseconds.
     Finish(u64),
+    /// `oob S M`: finishes the request of a session that is open out of band, at a moment.
+    Oob(u32, u64),
     /// `take S`: hands out the lines of a session.
     Take(u32),
     /// `eof S`: ends the input of a session.
@@ -100,6 +102,13 @@ fn drop_order(text: &[u8]) -> Option<Order>
     Some(Order::Drop(session, Cause::of_word(after_blank(text))?))
 }
 
+fn oob_order(text: &[u8]) -> Option<Order>
+    ensures { result ≡ oob_order_of text.now }
+{
+    let session = session(before_blank(text))?;
+    Some(Order::Oob(session, number(after_blank(text))?))
+}
+
 fn session_after(word: &[u8], line: &[u8]) -> Option<u32>
     ensures { result ≡ session_after_of word.now line.now }
 {
@@ -122,6 +131,12 @@ fn finish_line(line: &[u8]) -> Option<Order>
     ensures { result ≡ option_map Finish (option_and_then number_of (after_word_of (codes "finish ") line.now)) }
 {
     Some(Order::Finish(number(after_word(b"finish ", line)?)?))
+}
+
+fn oob_line(line: &[u8]) -> Option<Order>
+    ensures { result ≡ option_and_then oob_order_of (after_word_of (codes "oob ") line.now) }
+{
+    oob_order(after_word(b"oob ", line)?)
 }
 
 fn drop_line(line: &[u8]) -> Option<Order>
@@ -151,9 +166,9 @@ fn eof_line(line: &[u8]) -> Option<Order>
 fn long_order(line: &[u8]) -> Option<Order>
     ensures { result ≡ long_order_of line.now }
 {
-    text_line(line).or(feed_line(line).or(admit_line(line).or(finish_line(line).or(take_line(
+    text_line(line).or(feed_line(line).or(admit_line(line).or(finish_line(line).or(oob_line(
         line,
-    ).or(eof_line(line).or(drop_line(line)))))))
+    ).or(take_line(line).or(eof_line(line).or(drop_line(line))))))))
 }
 
 /// The order of a line of a script; None for any other line.

@@ -1,14 +1,16 @@
-ghost use Rattle.std.specs.Prelude.{◌≡◌, ◌≢◌, ◌≤◌, ◌++◌, [], IfOk, OnOk, IfSome, IsSome, Some, None, option_map, is_none, if◌then◌else◌};
+ghost use Rattle.std.specs.Prelude.{◌≡◌, ◌≢◌, ◌≤◌, ◌++◌, true, slice_get, IfOk, OnOk, IfSome, Some, None, option_map};
+ghost use Rattle.std.specs.Result.{result_err};
 ghost use Rattle.qm_core.specs.Legal.{past_of};
-ghost use Rattle.qm_core.specs.Next.{Start, Take, End, Drop, Finish};
+ghost use Rattle.qm_core.specs.Next.{Start, Take, End, Finish, FinishOob};
 ghost use Rattle.qm_core.specs.Next as step;
-ghost use Rattle.qm_core.specs.Standing.{sessions_of};
+ghost use Rattle.qm_core.specs.Standing.{was_opened};
 ghost use Rattle.qm_core.specs.declared.TheConstants.{MOST_ENTRIES, MOST_TEXT};
 ghost use Rattle.qm_core.specs.Inputs.{IsCleanInput};
 ghost use Rattle.qm_core.specs.Worlds.{IsReady};
 ghost use Rattle.qm_script.specs.Endings.{stop_of as stop_of_fault};
 ghost use Rattle.qm_script.specs.Orders.{hex_bytes_of};
-ghost use Rattle.qm_script.specs.Kept.{playing, IsFedBy, StepTurns, OpenTurns, FedTurns, AdmitTurns, FinishTurns, OrderTurns, LineTurns, closed_stop, next_input_of};
+ghost use Rattle.qm_script.specs.Fed.{fed_inputs_of};
+ghost use Rattle.qm_script.specs.Kept.{StepTurns, OpenTurns, DropTurns, FedTurns, AdmitTurns, FinishTurns, OobTurns, OrderTurns, LineTurns, TakesMore, closed_stop, fed_of, next_input_of};
 ghost use Rattle.qm_script.specs.Playing.{nothing_played};
 
 use crate::endings::{StepWord, Stop};
@@ -20,11 +22,12 @@ use qm_core::{Cause, EntryList, Input, Limits, Monitor, Offer, RequestName, Step
 use std::alloc::Global;
 use std::marker::Model;
 
-/// A monitor that is played on, and the bytes that were fed to its session.
+/// A monitor that is played on, and the bytes that were fed to its sessions.
 #[derive(Drop)]
 pub struct Player {
     monitor: Monitor,
-    feeder: Option<Feeder>,
+    /// Of each session its feeder, from the first bytes on until it is closed.
+    feeders: Vec<Option<Feeder>>,
 }
 
 impl Model for Player {
@@ -43,15 +46,6 @@ impl Model for Player {
     ghost invariant = { IsFed };
 }
 
-/// A player after a line, and why the line was refused, where it was.
-#[derive(Drop)]
-pub struct Turn {
-    /// The player.
-    pub player: Player,
-    /// Why the line was refused.
-    pub stop: Option<Stop>,
-}
-
 fn stop_of(fault: StepFault) -> Stop
     ensures { result ≡ stop_of_fault fault }
 {
@@ -59,11 +53,14 @@ fn stop_of(fault: StepFault) -> Stop
         StepFault::NoSession => Stop::Step(StepWord::NoSession),
         StepFault::Closed => Stop::Step(StepWord::Closed),
         StepFault::InputEnded => Stop::Step(StepWord::InputEnded),
+        StepFault::OobOpen => Stop::Step(StepWord::OobOpen),
         StepFault::Busy => Stop::Step(StepWord::Busy),
         StepFault::Nothing => Stop::Step(StepWord::Nothing),
         StepFault::NotRunning => Stop::Step(StepWord::NotRunning),
+        StepFault::NotOpen => Stop::Step(StepWord::NotOpen),
         StepFault::NotDrained => Stop::Step(StepWord::NotDrained),
         StepFault::WrongCause => Stop::Step(StepWord::WrongCause),
+        StepFault::Stopping => Stop::Step(StepWord::Stopping),
         StepFault::SessionsFull => Stop::SessionsFull,
         StepFault::JournalFull => Stop::JournalFull,
         StepFault::Memory => Stop::BadLine,
@@ -80,11 +77,14 @@ fn told(fault: StepFault) -> Result<Stop, NoMemory>
         StepFault::NoSession
         | StepFault::Closed
         | StepFault::InputEnded
+        | StepFault::OobOpen
         | StepFault::Busy
         | StepFault::Nothing
         | StepFault::NotRunning
+        | StepFault::NotOpen
         | StepFault::NotDrained
         | StepFault::WrongCause
+        | StepFault::Stopping
         | StepFault::SessionsFull
         | StepFault::JournalFull => Ok(stop_of(fault)),
     }
@@ -111,64 +111,31 @@ fn stop_told(fault: Option<StepFault>) -> Result<Option<Stop>, NoMemory>
     }
 }
 
-/// The bytes of a session that an `open` opened, if it did: none yet.
-fn first_fed(alloc: Global, stop: Option<Stop>) -> Result<Option<Feeder>, NoMemory>
-    ensures { IfOk result (λ feeder. feeder ≡ (if is_none stop then Some [] else None)) }
-{
-    match stop {
-        Some(_) => Ok(None),
-        None => Ok(Some(Feeder::new(alloc)?)),
-    }
-}
-
-/// Feeds more bytes, where a session was opened.
+/// Feeds more bytes.
 fn fed_more(
     alloc: Global,
     feeder: Option<Feeder>,
     bytes: &[u8],
     ending: &[u8],
-) -> Result<Option<Feeder>, NoMemory>
-    ensures { IfOk result (λ more. more ≡ option_map (λ fed. fed ++ (bytes.now ++ ending.now)) feeder) }
+) -> Result<Feeder, NoMemory>
+    ensures { IfOk result (λ more. more ≡ fed_of feeder ++ (bytes.now ++ ending.now)) }
+{
+    let feeder = match feeder {
+        Some(feeder) => feeder,
+        None => Feeder::new(alloc)?,
+    };
+    let feeder = feeder.fed(alloc, bytes)?;
+    feeder.fed(alloc, ending)
+}
+
+/// The input of a place of those that a feeder was fed.
+fn input_at(feeder: &Option<Feeder>, place: u64) -> Result<Option<Input>, NoMemory>
+    ensures value { IfOk result (λ input. input ≡ slice_get (fed_inputs_of (fed_of feeder.now)) place) }
+    ensures clean { IfOk result (λ input. IfSome input IsCleanInput) }
 {
     match feeder {
-        Some(feeder) => {
-            let feeder = feeder.fed(alloc, bytes)?;
-            Ok(Some(feeder.fed(alloc, ending)?))
-        }
+        Some(feeder) => feeder.input(place),
         None => Ok(None),
-    }
-}
-
-/// Gives a value up where memory is wanting.
-fn given_up<T: Drop>(value: T) -> NoMemory {
-    let _value = value;
-    NoMemory
-}
-
-/// The turn that ends with this monitor, these bytes and this stop.
-fn turned(monitor: Monitor, feeder: Option<Feeder>, stop: Option<Stop>) -> Turn
-    requires { IsFedBy monitor.journal feeder }
-    ensures player { result.player ≡ playing monitor feeder }
-    ensures stop { result.stop ≡ stop }
-{
-    Turn {
-        player: Player { monitor, feeder },
-        stop,
-    }
-}
-
-/// Opens the first session of a monitor.
-fn open_first(alloc: Global, monitor: Monitor) -> Result<Turn, NoMemory>
-    requires { sessions_of (past_of monitor.journal) ≡ [] }
-    ensures { IfOk result (OpenTurns (playing monitor None)) }
-{
-    let mut monitor = monitor;
-    match stop_told(monitor.open(alloc).err()) {
-        Ok(stop) => match first_fed(alloc, stop) {
-            Ok(feeder) => Ok(turned(monitor, feeder, stop)),
-            Err(NoMemory) => Err(given_up(monitor)),
-        },
-        Err(NoMemory) => Err(given_up(monitor)),
     }
 }
 
@@ -185,7 +152,7 @@ impl Player {
         let monitor = Monitor::new(alloc, world, limits)?;
         Ok(Player {
             monitor,
-            feeder: None,
+            feeders: Vec::new(alloc),
         })
     }
 
@@ -196,237 +163,244 @@ impl Player {
         self.monitor.journal()
     }
 
-    fn refused(self, stop: Stop) -> Turn
-        ensures player { result.player ≡ self }
-        ensures stop { result.stop ≡ Some stop }
+    fn open(&mut self, alloc: Global) -> Result<Option<Stop>, NoMemory>
+        ensures { IfOk result (λ stop. OpenTurns self.old stop self.new) }
     {
-        Turn {
-            player: self,
-            stop: Some(stop),
+        self.feeders.push(None)?;
+        match self.monitor.open(alloc) {
+            Ok(_) => Ok(None),
+            Err(fault) => {
+                self.feeders.pop();
+                Ok(Some(told(fault)?))
+            }
         }
     }
 
-    fn stepped(self) -> Turn
-        ensures player { result.player ≡ self }
-        ensures stop { result.stop ≡ None }
-    {
-        Turn {
-            player: self,
-            stop: None,
-        }
-    }
-
-    fn open(self, alloc: Global) -> Result<Turn, NoMemory>
-        ensures { IfOk result (OpenTurns self) }
-    {
-        let Player { monitor, feeder } = self;
-        match feeder {
-            Some(feeder) => Ok(turned(monitor, Some(feeder), Some(Stop::BadLine))),
-            None => open_first(alloc, monitor),
-        }
-    }
-
-    /// Why a session takes nothing, where it was never opened or is closed.
-    fn closed(&self, session: u32) -> Option<Stop>
-        ensures { result ≡ closed_stop self.now session }
+    /// The place of a session, or why it takes nothing: it was never opened, or is closed.
+    fn place(&self, session: u32) -> Result<usize, Stop>
+        ensures stop { result_err result ≡ closed_stop self.now session }
+        ensures place { IfOk result (TakesMore self.now session) }
     {
         if !self.monitor.is_known(session) {
-            return Some(Stop::Step(StepWord::NoSession));
+            return Err(Stop::Step(StepWord::NoSession));
         }
         if self.monitor.is_closed(session) {
-            return Some(Stop::Step(StepWord::Closed));
+            return Err(Stop::Step(StepWord::Closed));
         }
-        None
+        Ok(session as usize - 1)
     }
 
-    fn feed_open(
-        self,
+    fn feed_at(
+        &mut self,
         alloc: Global,
         session: u32,
+        place: usize,
         bytes: &[u8],
         ending: &[u8],
-    ) -> Result<Turn, NoMemory>
-        requires { closed_stop self session ≡ None }
-        ensures { IfOk result (FedTurns self session (bytes.now ++ ending.now)) }
+    ) -> Result<(), NoMemory>
+        requires { TakesMore self.old session place }
+        ensures { OnOk result (FedTurns self.old session (bytes.now ++ ending.now) None self.new) }
     {
         let _session = session;
-        let Player { monitor, feeder } = self;
-        match fed_more(alloc, feeder, bytes, ending) {
-            Ok(feeder) => Ok(turned(monitor, feeder, None)),
-            Err(NoMemory) => Err(given_up(monitor)),
-        }
+        let feeder = self.feeders[place].take();
+        self.feeders[place] = Some(fed_more(alloc, feeder, bytes, ending)?);
+        Ok(())
     }
 
     fn feed(
-        self,
+        &mut self,
         alloc: Global,
         session: u32,
         bytes: &[u8],
         ending: &[u8],
-    ) -> Result<Turn, NoMemory>
-        ensures { IfOk result (FedTurns self session (bytes.now ++ ending.now)) }
+    ) -> Result<Option<Stop>, NoMemory>
+        ensures { IfOk result (λ stop. FedTurns self.old session (bytes.now ++ ending.now) stop self.new) }
     {
-        match self.closed(session) {
-            Some(stop) => Ok(self.refused(stop)),
-            None => self.feed_open(alloc, session, bytes, ending),
+        match self.place(session) {
+            Err(stop) => Ok(Some(stop)),
+            Ok(place) => {
+                self.feed_at(alloc, session, place, bytes, ending)?;
+                Ok(None)
+            }
         }
     }
 
-    fn feed_hex(self, alloc: Global, session: u32, text: &[u8]) -> Result<Turn, NoMemory>
-        ensures { IfOk result (FedTurns self session (hex_bytes_of text.now)) }
+    fn feed_hex(
+        &mut self,
+        alloc: Global,
+        session: u32,
+        text: &[u8],
+    ) -> Result<Option<Stop>, NoMemory>
+        ensures { IfOk result (λ stop. FedTurns self.old session (hex_bytes_of text.now) stop self.new) }
     {
-        match hex_bytes(alloc, text) {
-            Ok(bytes) => self.feed(alloc, session, bytes.as_slice(), b""),
-            Err(NoMemory) => Err(given_up(self)),
-        }
+        let bytes = hex_bytes(alloc, text)?;
+        self.feed(alloc, session, bytes.as_slice(), b"")
     }
 
-    fn next_input(&self, session: u32) -> Result<Option<Input>, NoMemory>
-        requires { closed_stop self.now session ≡ None }
+    fn next_input(&self, session: u32, place: usize) -> Result<Option<Input>, NoMemory>
+        requires { TakesMore self.now session place }
         ensures value { IfOk result (λ input. input ≡ next_input_of self.now session) }
         ensures clean { IfOk result (λ input. IfSome input IsCleanInput) }
     {
-        match &self.feeder {
-            Some(feeder) => feeder.input(self.monitor.admitted(session)),
-            None => Ok(None),
-        }
+        input_at(&self.feeders[place], self.monitor.admitted(session))
     }
 
-    fn admit_offer(self, session: u32, offer: Offer) -> Turn
-        requires { IsSome offer }
-        ensures { IfSome offer (λ input. StepTurns self (step.Admit session input) result) }
-    {
-        let Player {
-            mut monitor,
-            feeder,
-        } = self;
-        let mut offer = offer;
-        let stop = stop_for(monitor.admit(session, &mut offer).err());
-        turned(monitor, feeder, stop)
-    }
-
-    fn admit_input(self, alloc: Global, session: u32, input: Input) -> Result<Turn, NoMemory>
+    fn admit_input(
+        &mut self,
+        alloc: Global,
+        session: u32,
+        input: Input,
+    ) -> Result<Option<Stop>, NoMemory>
         requires { IsCleanInput input }
-        ensures { IfOk result (StepTurns self (step.Admit session input)) }
+        ensures { IfOk result (λ stop. StepTurns self.old (step.Admit session input) stop self.new) }
     {
-        match Offer::of(alloc, input) {
-            Ok(offer) => Ok(self.admit_offer(session, offer)),
-            Err(NoMemory) => Err(given_up(self)),
-        }
+        let mut offer = Offer::of(alloc, input)?;
+        Ok(stop_for(self.monitor.admit(session, &mut offer).err()))
     }
 
-    fn admit_next(self, alloc: Global, session: u32, input: Option<Input>) -> Result<Turn, NoMemory>
-        requires more { closed_stop self session ≡ None }
-        requires next { input ≡ next_input_of self session }
-        requires clean { IfSome input IsCleanInput }
-        ensures { IfOk result (AdmitTurns self session) }
+    fn admit_at(
+        &mut self,
+        alloc: Global,
+        session: u32,
+        place: usize,
+    ) -> Result<Option<Stop>, NoMemory>
+        requires { TakesMore self.old session place }
+        ensures { IfOk result (λ stop. AdmitTurns self.old session stop self.new) }
     {
-        match input {
+        match self.next_input(session, place)? {
             Some(input) => self.admit_input(alloc, session, input),
-            None => Ok(self.refused(Stop::Step(StepWord::NoFrame))),
+            None => Ok(Some(Stop::Step(StepWord::NoFrame))),
         }
     }
 
-    fn admit_open(self, alloc: Global, session: u32) -> Result<Turn, NoMemory>
-        requires { closed_stop self session ≡ None }
-        ensures { IfOk result (AdmitTurns self session) }
+    fn admit(&mut self, alloc: Global, session: u32) -> Result<Option<Stop>, NoMemory>
+        ensures { IfOk result (λ stop. AdmitTurns self.old session stop self.new) }
     {
-        match self.next_input(session) {
-            Ok(input) => self.admit_next(alloc, session, input),
-            Err(NoMemory) => Err(given_up(self)),
+        match self.place(session) {
+            Err(stop) => Ok(Some(stop)),
+            Ok(place) => self.admit_at(alloc, session, place),
         }
     }
 
-    fn admit(self, alloc: Global, session: u32) -> Result<Turn, NoMemory>
-        ensures { IfOk result (AdmitTurns self session) }
+    fn start(&mut self) -> Option<Stop>
+        ensures { StepTurns self.old Start result self.new }
     {
-        match self.closed(session) {
-            Some(stop) => Ok(self.refused(stop)),
-            None => self.admit_open(alloc, session),
-        }
-    }
-
-    fn start(self) -> Turn
-        ensures { StepTurns self Start result }
-    {
-        let Player {
-            mut monitor,
-            feeder,
-        } = self;
-        let stop = stop_for(monitor.start().err());
-        turned(monitor, feeder, stop)
+        stop_for(self.monitor.start().err())
     }
 
     fn finish_request(
-        self,
+        &mut self,
+        alloc: Global,
+        request: RequestName,
+        moment: u64,
+    ) -> Result<Option<Stop>, NoMemory>
+        ensures { IfOk result (λ stop.
+            StepTurns self.old (Finish request.session request.number moment) stop self.new) }
+    {
+        let RequestName { session, number } = request;
+        let plan = self.monitor.planned(alloc)?;
+        stop_told(
+            self.monitor
+                .finish(alloc, session, number, plan, moment)
+                .err(),
+        )
+    }
+
+    fn finish(&mut self, alloc: Global, moment: u64) -> Result<Option<Stop>, NoMemory>
+        ensures { IfOk result (λ stop. FinishTurns self.old moment stop self.new) }
+    {
+        match self.monitor.running() {
+            Some(request) => self.finish_request(alloc, request, moment),
+            None => Ok(Some(Stop::Step(StepWord::NotRunning))),
+        }
+    }
+
+    fn finish_out_of_band(
+        &mut self,
         alloc: Global,
         session: u32,
         number: u64,
         moment: u64,
-    ) -> Result<Turn, NoMemory>
-        ensures { IfOk result (StepTurns self (Finish session number moment)) }
+    ) -> Result<Option<Stop>, NoMemory>
+        requires { was_opened session (past_of self.old.played.journal) ≡ true }
+        ensures { IfOk result (λ stop.
+            StepTurns self.old (FinishOob session number moment) stop self.new) }
     {
-        let Player {
-            mut monitor,
-            feeder,
-        } = self;
-        match monitor.planned(alloc) {
-            Ok(plan) => {
-                match stop_told(monitor.finish(alloc, session, number, plan, moment).err()) {
-                    Ok(stop) => Ok(turned(monitor, feeder, stop)),
-                    Err(NoMemory) => Err(given_up((monitor, feeder))),
-                }
-            }
-            Err(NoMemory) => Err(given_up((monitor, feeder))),
+        let plan = self.monitor.planned_out_of_band(alloc, session)?;
+        stop_told(
+            self.monitor
+                .oob_finish(alloc, session, number, plan, moment)
+                .err(),
+        )
+    }
+
+    fn oob_at(
+        &mut self,
+        alloc: Global,
+        session: u32,
+        place: usize,
+        moment: u64,
+    ) -> Result<Option<Stop>, NoMemory>
+        requires { TakesMore self.old session place }
+        ensures { IfOk result (λ stop. OobTurns self.old session moment stop self.new) }
+    {
+        let _place = place;
+        match self.monitor.open_out_of_band(session) {
+            Some(request) => self.finish_out_of_band(alloc, session, request.number, moment),
+            None => Ok(Some(Stop::Step(StepWord::NotOpen))),
         }
     }
 
-    fn finish(self, alloc: Global, moment: u64) -> Result<Turn, NoMemory>
-        ensures { IfOk result (FinishTurns self moment) }
+    fn oob(&mut self, alloc: Global, session: u32, moment: u64) -> Result<Option<Stop>, NoMemory>
+        ensures { IfOk result (λ stop. OobTurns self.old session moment stop self.new) }
     {
-        match self.monitor.running() {
-            Some(RequestName { session, number }) => {
-                self.finish_request(alloc, session, number, moment)
-            }
-            None => Ok(self.refused(Stop::Step(StepWord::NotRunning))),
+        match self.place(session) {
+            Err(stop) => Ok(Some(stop)),
+            Ok(place) => self.oob_at(alloc, session, place, moment),
         }
     }
 
-    fn take(self, session: u32) -> Turn
-        ensures { StepTurns self (Take session) result }
+    fn take(&mut self, session: u32) -> Option<Stop>
+        ensures { StepTurns self.old (Take session) result self.new }
     {
-        let Player {
-            mut monitor,
-            feeder,
-        } = self;
-        let stop = stop_for(monitor.take(session).err());
-        turned(monitor, feeder, stop)
+        stop_for(self.monitor.take(session).err())
     }
 
-    fn end(self, session: u32) -> Turn
-        ensures { StepTurns self (End session) result }
+    fn end(&mut self, session: u32) -> Option<Stop>
+        ensures { StepTurns self.old (End session) result self.new }
     {
-        let Player {
-            mut monitor,
-            feeder,
-        } = self;
-        let stop = stop_for(monitor.end(session).err());
-        turned(monitor, feeder, stop)
+        stop_for(self.monitor.end(session).err())
     }
 
-    fn drop_session(self, session: u32, cause: Cause) -> Turn
-        ensures { StepTurns self (Drop session cause) result }
+    fn drop_at(&mut self, session: u32, place: usize, cause: Cause) -> Option<Stop>
+        requires { TakesMore self.old session place }
+        ensures { DropTurns self.old session cause result self.new }
     {
-        let Player {
-            mut monitor,
-            feeder,
-        } = self;
-        let stop = stop_for(monitor.drop_session(session, cause).err());
-        turned(monitor, feeder, stop)
+        match self.monitor.drop_session(session, cause) {
+            Ok(()) => {
+                self.feeders[place] = None;
+                None
+            }
+            Err(fault) => Some(stop_of(fault)),
+        }
     }
 
-    fn ordered(self, alloc: Global, order: Order, line: &[u8]) -> Result<Turn, NoMemory>
-        ensures { IfOk result (OrderTurns self line.now order) }
+    fn drop_session(&mut self, session: u32, cause: Cause) -> Option<Stop>
+        ensures { DropTurns self.old session cause result self.new }
+    {
+        match self.place(session) {
+            Err(stop) => Some(stop),
+            Ok(place) => self.drop_at(session, place, cause),
+        }
+    }
+
+    fn ordered(
+        &mut self,
+        alloc: Global,
+        order: Order,
+        line: &[u8],
+    ) -> Result<Option<Stop>, NoMemory>
+        ensures { IfOk result (λ stop. OrderTurns self.old line.now order stop self.new) }
     {
         match order {
             Order::Open => self.open(alloc),
@@ -435,22 +409,24 @@ impl Player {
             Order::Admit(session) => self.admit(alloc, session),
             Order::Start => Ok(self.start()),
             Order::Finish(moment) => self.finish(alloc, moment),
+            Order::Oob(session, moment) => self.oob(alloc, session, moment),
             Order::Take(session) => Ok(self.take(session)),
             Order::Eof(session) => Ok(self.end(session)),
             Order::Drop(session, cause) => Ok(self.drop_session(session, cause)),
         }
     }
 
-    /// Plays a line.
-    pub fn line(self, alloc: Global, line: &[u8]) -> Result<Turn, NoMemory>
-        ensures { IfOk result (LineTurns self line.now) }
+    /// Plays a line, and answers why it was refused, where it was. A line that is refused leaves
+    /// the player as it was.
+    pub fn line(&mut self, alloc: Global, line: &[u8]) -> Result<Option<Stop>, NoMemory>
+        ensures { IfOk result (λ stop. LineTurns self.old line.now stop self.new) }
     {
         if is_skipped(line) {
-            return Ok(self.stepped());
+            return Ok(None);
         }
         match order_of_line(line) {
             Some(order) => self.ordered(alloc, order, line),
-            None => Ok(self.refused(Stop::BadLine)),
+            None => Ok(Some(Stop::BadLine)),
         }
     }
 }

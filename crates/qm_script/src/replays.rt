@@ -12,7 +12,7 @@ ghost use Rattle.qm_script.specs.Kept.{Finishes};
 use crate::closings::{closing, end_of};
 use crate::endings::{PlayEnd, Refused};
 use crate::lines::first_line;
-use crate::player::{Player, Turn};
+use crate::player::Player;
 use qm_base::NoMemory;
 use qm_core::{EntryList, Limits, World};
 use qm_history::{HistoryFault, write_history};
@@ -34,33 +34,25 @@ fn told_number(number: u64) -> u32
     number.min(u32::MAX as u64) as u32
 }
 
-fn run(alloc: Global, player: Player, script: &[u8]) -> Result<Finished, NoMemory>
-    ensures { IfOk result (Finishes (played_from player.world player.limits 1 player.played (lines_of script.now))) }
+/// Plays the lines of a script, and answers the one that was refused, if one was.
+fn run(alloc: Global, player: &mut Player, script: &[u8]) -> Result<Option<Refused>, NoMemory>
+    ensures { let lines = lines_of script.now in IfOk result
+        (Finishes (played_from player.old.world player.old.limits 1 player.old.played lines) player.new) }
 {
-    let mut player = player;
     let mut rest = script;
     let mut number = 0u64;
     while rest.len() > 0 {
         let (line, later) = first_line(rest);
         number += 1;
-        let Turn { player: next, stop } = player.line(alloc, line)?;
-        if let Some(stop) = stop {
-            let refused = Refused {
+        if let Some(stop) = player.line(alloc, line)? {
+            return Ok(Some(Refused {
                 line: told_number(number),
                 stop,
-            };
-            return Ok(Finished {
-                player: next,
-                refused: Some(refused),
-            });
+            }));
         }
-        player = next;
         rest = later;
     }
-    Ok(Finished {
-        player,
-        refused: None,
-    })
+    Ok(None)
 }
 
 fn put_closing<S: Sink>(
@@ -99,6 +91,11 @@ fn put_transcript<S: Sink>(
     }
 }
 
+/// Lets a value go.
+fn let_go<T: Drop>(value: T) {
+    let _value = value;
+}
+
 fn replayed(
     alloc: Global,
     world: World,
@@ -109,14 +106,21 @@ fn replayed(
     requires few { limits.entries ≤ MOST_ENTRIES }
     requires short { limits.text ≤ MOST_TEXT }
     requires ready { IsReady world }
-    ensures { IfOk result (Finishes (played_of world limits script.now)) }
+    ensures { IfOk result (λ finished.
+        Finishes (played_of world limits script.now) finished.player finished.refused) }
 {
-    let player = Player::new(alloc, world, limits)?;
-    run(alloc, player, script)
+    let mut player = Player::new(alloc, world, limits)?;
+    match run(alloc, &mut player, script) {
+        Ok(refused) => Ok(Finished { player, refused }),
+        Err(NoMemory) => {
+            let_go(player);
+            Err(NoMemory)
+        }
+    }
 }
 
 fn put_finished<S: Sink>(alloc: Global, finished: &Finished, sink: &mut S) -> PlayEnd
-    ensures { (ended : Ended) → Finishes ended finished.now →
+    ensures { (ended : Ended) → Finishes ended finished.now.player finished.now.refused →
         Plays ended (sunk S.contents S.faults sink.old sink.new) result }
 {
     match put_transcript(alloc, finished.player.journal(), finished.refused, sink) {
@@ -124,11 +128,6 @@ fn put_finished<S: Sink>(alloc: Global, finished: &Finished, sink: &mut S) -> Pl
         Err(HistoryFault::SinkFault) => PlayEnd::SinkFault,
         Err(HistoryFault::Memory) => PlayEnd::Memory,
     }
-}
-
-/// Lets a value go.
-fn let_go<T: Drop>(value: T) {
-    let _value = value;
 }
 
 /// Plays a script in a world, and puts its transcript into the sink: the text of the journal and

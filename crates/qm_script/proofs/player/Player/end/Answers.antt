@@ -1,11 +1,12 @@
+use Rattle.std.proofs.Common.{refl}
 use Rattle.qm_core.specs.Next.{End}
 use Rattle.qm_script.proofs.StepLemmas.{step_turns, still_fed, told_of}
 use Rattle.qm_script.proofs.player.Player.end.Goals as goal
 
-pub turned-requires : goal.turned-requires
-turned-requires c = still_fed c.self.inside.monitor c.end.new.self c.self.inside.feeder (End c.args.session) _ c.self.invariant tt c.end.ensures
+pub invariant_of-self : goal.invariant_of-self
+invariant_of-self c = still_fed c.self.inside.monitor c.end.new.self c.self.inside.feeders.items _ (End c.args.session) _ c.self.invariant refl tt c.end.ensures
 
 pub returns : goal.returns
 returns c =
-    step_turns c.args.self c.self.inside.monitor c.end.new.self c.self.inside.feeder (End c.args.session) _ c.stop_for-stop.result c.turned.result c.self.view_is c.end.ensures
-    (told_of c.err.result _ _ c.err.ensures.value c.stop_for-stop.ensures) c.turned.ensures.player c.turned.ensures.stop
+    step_turns c.args.self.now c.self.inside.monitor c.end.new.self c.self.inside.feeders.items (End c.args.session) _ c.stop_for.result c.self.view_is c.end.ensures
+    (told_of c.err.result _ _ c.err.ensures.value c.stop_for.ensures)

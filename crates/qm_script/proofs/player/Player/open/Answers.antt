@@ -1,17 +1,20 @@
-use Rattle.std.proofs.Common.{ap, sym, ◌∙◌, subst, List, ℕ, Option, IfOk}
-use Rattle.qm_script.specs.{Kept.IsFedBy, Kept.OpenTurns, Kept.playing, Players.Playing}
-use Rattle.qm_script.proofs.StepLemmas.{open_again, none_opened}
+use Rattle.std.proofs.Common.{◌≡◌, ℕ, List, Option, Some, None, Err, sym, subst}
+use Rattle.qm_core.specs.declared.entries.StepFault.TheVariants.{Memory}
+use Rattle.qm_script.specs.Kept.{OpenTurns, playing}
+use Rattle.qm_script.proofs.StepLemmas.{open_turns, open_refused, popped}
 use Rattle.qm_script.proofs.player.Player.open.Goals as goal
 
-pub turned-requires : goal.turned-requires
-turned-requires c = subst (λ (f : Option (List ℕ)). IsFedBy c.self.inside.monitor.journal f) c.in-Some.is c.self.invariant
+pub returns-in-Ok : goal.returns-in-Ok
+returns-in-Ok c =
+    subst (λ (l : List (Option (List ℕ))). OpenTurns c.args.self.now None (playing c.open.new.self l)) (sym c.in_ok-push.ensures.items)
+    (open_turns c.args.self.now c.self.inside.monitor c.open.new.self c.self.inside.feeders.items c.self.view_is (c.in-Ok.ensures.next (λ e. cc)))
 
-pub returns-in-Some : goal.returns-in-Some
-returns-in-Some c = open_again c.args.self c.self.inside.monitor c.self.inside.feeder c.in-Some.feeder c.turned.result c.self.view_is c.self.invariant c.in-Some.is c.turned.ensures.player c.turned.ensures.stop
-
-pub open_first-requires : goal.open_first-requires
-open_first-requires c = none_opened c.self.inside.monitor c.self.inside.feeder c.self.invariant c.in-None.is
-
-pub returns-in-None : goal.returns-in-None
-returns-in-None c =
-    subst (λ (p : Playing). IfOk c.open_first.result (OpenTurns p)) (ap (λ (f : Option (List ℕ)). playing c.self.inside.monitor f) (sym c.in-None.is) ∙ c.self.view_is) c.open_first.ensures
+pub returns-in_ok-told-in-Err : goal.returns-in_ok-told-in-Err
+returns-in_ok-told-in-Err c =
+    let fault = c.in-Err.fault in
+    let told = c.in_ok-told-in-Err.ensures in
+    let items = c.self.inside.feeders.items in
+    let same : c.pop.new.self.items ≡ items = popped items c.push.new.self.items c.pop.new.self.items None _ c.in_ok-push.ensures.items c.push.new.self.ok.0 c.pop.ensures.rest in
+    let next = c.in-Err.ensures.next (λ e. told.known (let f : Err fault ≡ Err Memory = e in cc)) in
+    subst (λ (l : List (Option (List ℕ))). OpenTurns c.args.self.now (Some c.in_ok-told-in-Err.field-0) (playing c.open.new.self l)) (sym same)
+    (open_refused c.args.self.now c.self.inside.monitor c.open.new.self items fault c.in_ok-told-in-Err.field-0 c.self.view_is next told.stop)

@@ -1,11 +1,12 @@
+use Rattle.std.proofs.Common.{refl}
 use Rattle.qm_core.specs.Next.{Take}
 use Rattle.qm_script.proofs.StepLemmas.{step_turns, still_fed, told_of}
 use Rattle.qm_script.proofs.player.Player.take.Goals as goal
 
-pub turned-requires : goal.turned-requires
-turned-requires c = still_fed c.self.inside.monitor c.take.new.self c.self.inside.feeder (Take c.args.session) _ c.self.invariant tt c.take.ensures.next
+pub invariant_of-self : goal.invariant_of-self
+invariant_of-self c = still_fed c.self.inside.monitor c.take.new.self c.self.inside.feeders.items _ (Take c.args.session) _ c.self.invariant refl tt c.take.ensures.next
 
 pub returns : goal.returns
 returns c =
-    step_turns c.args.self c.self.inside.monitor c.take.new.self c.self.inside.feeder (Take c.args.session) _ c.stop_for-stop.result c.turned.result c.self.view_is c.take.ensures.next
-    (told_of c.err.result _ _ c.err.ensures.value c.stop_for-stop.ensures) c.turned.ensures.player c.turned.ensures.stop
+    step_turns c.args.self.now c.self.inside.monitor c.take.new.self c.self.inside.feeders.items (Take c.args.session) _ c.stop_for.result c.self.view_is c.take.ensures.next
+    (told_of c.err.result _ _ c.err.ensures.value c.stop_for.ensures)

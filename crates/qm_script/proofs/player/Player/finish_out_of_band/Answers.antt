@@ -1,0 +1,10 @@
+use Rattle.qm_core.specs.Next.{FinishOob}
+use Rattle.qm_script.proofs.StepLemmas.{both_ok, step_turns, told_of, unlike_memory}
+use Rattle.qm_script.proofs.player.Player.finish_out_of_band.Goals as goal
+
+pub returns : goal.returns
+returns c =
+    both_ok c.stop_told.result _ _ _
+    (λ stop told known. step_turns c.args.self.now c.self.inside.monitor c.oob_finish.new.self c.self.inside.feeders.items (FinishOob c.args.session c.args.number c.args.moment) _ stop c.self.view_is
+    (c.oob_finish.ensures.next (unlike_memory c.oob_finish.result c.err.result c.err.ensures.value known)) (told_of c.err.result _ _ c.err.ensures.value told))
+    c.stop_told.ensures.stop c.stop_told.ensures.known
