@@ -1,7 +1,6 @@
 -- No message among the frames of bytes is longer than a message may be.
-use Rattle.std.proofs.Common.{◌≡◌, ◌≤◌, ℕ, ◌+◌, zero, suc, nat_le, Bool, true, false, cond, ◌&&◌, List, [], ◌∷◌, ◌++◌, length, Option, Some, None, position, Result, Ok, Err, refl, ◌∙◌, subst, arith}
+use Rattle.std.proofs.Common.{◌≡◌, ℕ, zero, suc, nat_le, Bool, true, false, cond, ◌&&◌, List, [], ◌∷◌, ◌++◌, length, Option, Some, None, position, Result, Ok, Err, refl, ◌∙◌}
 use Rattle.std.specs.List.{list_all}
-use Rattle.std.proofs.lemmas.Bool.Decides.{nat_tests}
 use Rattle.std.proofs.lemmas.List.Folds.{list_all-append}
 use Rattle.qm_base.specs.Search.{Piece, Final, Found, after_front, found_after}
 use Rattle.qm_frame.specs.{Bytes.is_closer, Bytes.is_opener, Bytes.is_reset, Bytes.is_space, Messages.is_message, Messages.is_open, Messages.fault_of}

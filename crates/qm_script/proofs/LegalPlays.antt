@@ -1,5 +1,5 @@
 -- The journal that a script plays is legal.
-use Rattle.std.proofs.Common.{◌≡◌, ℕ, ◌+◌, ◌-◌, ◌++◌, Bool, true, false, cond, List, [], ◌∷◌, length, Option, Some, None, IfSome, Result, Ok, Err, IfOk, ◌<◌, ◌^◌, refl}
+use Rattle.std.proofs.Common.{◌≡◌, ℕ, ◌+◌, ◌-◌, ◌++◌, Bool, true, false, cond, List, [], ◌∷◌, Option, Some, None, IfSome, Result, Ok, Err, IfOk, ◌<◌, ◌^◌, refl}
 use Rattle.std.specs.List.{slice_get}
 use Rattle.std.proofs.Math.ListN.{set}
 use Rattle.qm_core.specs.{Legal.IsLegal, Legal.past_of, Next.View, Next.refusal_of, Next.entry_of, Next.session_refusal, Next.IsCleanStep}
@@ -10,7 +10,7 @@ use Rattle.qm_core.proofs.StepLaws.{next_legal}
 use Rattle.qm_script.specs.{Fed.fed_inputs_of, Playing.journal_of, Lines.lines_of}
 use Rattle.qm_script.specs.Orders.{order_of, fed_by, hex_bytes_of, is_skipped}
 use Rattle.qm_script.specs.Playing.{Played, Ended, stepped, core_step, fed_step, fed_to, input_step, admit_step, finish_step, oob_step, opened_step, ordered, line_step, after_line, nothing_played, played_from}
-use Rattle.qm_script.specs.declared.{endings.Stop.Stop, endings.Stop.TheVariants.BadLine, orders.Order.Order}
+use Rattle.qm_script.specs.declared.{endings.Stop.Stop, orders.Order.Order}
 use Rattle.qm_script.specs.declared.orders.Order.TheVariants as order
 use Rattle.qm_script.proofs.{FedLemmas.fed_clean, OrderLemmas.IsSmall, OrderLemmas.order-small}
 

@@ -1,15 +1,15 @@
 -- Bytes, inputs and the end of a session: a turn of the player, by why the session takes nothing.
-use Rattle.std.proofs.Common.{◌≡◌, ◌<◌, ◌-◌, ℕ, Bool, true, false, List, [], ◌∷◌, ◌++◌, length, map, get_or, slice_get, unwrap_or, option_map, Option, Some, None, Result, Ok, Err, refl, ap, sym, ◌∙◌, subst, arith}
+use Rattle.std.proofs.Common.{◌≡◌, ◌<◌, ◌-◌, ℕ, Bool, List, [], ◌++◌, length, map, get_or, slice_get, unwrap_or, option_map, Option, Some, None, refl, ap, sym, ◌∙◌, subst}
 use Rattle.std.specs.{Bool.if◌then◌else◌, Option.option_or}
 use Rattle.std.proofs.Math.ListN.{set}
-use Rattle.std.proofs.lemmas.List.{length-map, map-set, get_or-map}
+use Rattle.std.proofs.lemmas.List.{map-set}
 use Rattle.std.proofs.lemmas.Option.{slice_get-map, slice_get-get_or}
 use Rattle.qm_core.specs.{Legal.past_of, Next.View, Next.closed_refusal, Next.refusal_of, Next.session_refusal, Standing.admitted_of, Standing.is_dropped, Standing.named_of, Standing.open_out_of_band_of, Standing.was_opened}
 use Rattle.qm_core.specs.Next as step
 use Rattle.qm_core.specs.declared.{entries.Cause.Cause, entries.StepFault.StepFault, inputs.Input.Input, requests.RequestName.RequestName}
 use Rattle.qm_core.specs.declared.entries.StepFault.TheVariants.{NoSession, Closed}
 use Rattle.qm_script.specs.{Endings.stop_of, Fed.fed_inputs_of, Kept.playing, Kept.fed_of, Kept.Turns, Kept.StepTurns, Kept.FedTurns, Kept.AdmitTurns, Kept.DropTurns, Kept.OobTurns, Kept.TakesMore, Kept.closed_stop, Kept.next_input_of, Players.Playing}
-use Rattle.qm_script.specs.Playing.{Played, admit_step, core_step, fed_step, fed_to, input_step, oob_step, opened_step, stepped}
+use Rattle.qm_script.specs.Playing.{Played, admit_step, fed_step, fed_to, input_step, oob_step, opened_step, stepped}
 use Rattle.qm_script.specs.declared.endings.StepWord.TheVariants as word
 use Rattle.qm_script.specs.declared.{endings.Stop.Stop, endings.Stop.TheVariants.Step}
 
@@ -61,8 +61,8 @@ unfolding FedTurns closed_stop
 fed_turns self m feeders s place bytes more d seen takes within is =
     let free : session_refusal s (past_of self.played.journal) None ≡ None = no_stop _ takes.going in
     let all : map fed_of (set feeders place (Some more)) ≡ set (map fed_of feeders) (s - 1) (fed_to s (map fed_of feeders) ++ bytes) =
-        map-set fed_of feeders place (Some more) ∙ ap (λ (n : ℕ). set (map fed_of feeders) n more) takes.at
-        ∙ ap (λ (l : List ℕ). set (map fed_of feeders) (s - 1) l) (is ∙ ap (λ (l : List ℕ). l ++ bytes) (sym (fed-at feeders s place d takes.at within))) in
+    map-set fed_of feeders place (Some more) ∙ ap (λ (n : ℕ). set (map fed_of feeders) n more) takes.at
+    ∙ ap (λ (l : List ℕ). set (map fed_of feeders) (s - 1) l) (is ∙ ap (λ (l : List ℕ). l ++ bytes) (sym (fed-at feeders s place d takes.at within))) in
     let turns : Turns (playing m feeders) (fed_step record { journal = m.journal; fed = map fed_of feeders } s bytes None) None (playing m (set feeders place (Some more))) = (refl, rw all refl) in
     subst (λ (f : Option StepFault). Turns self (fed_step self.played s bytes f) None (playing m (set feeders place (Some more)))) (sym free)
     (subst (λ (p : Playing). Turns p (fed_step p.played s bytes None) None (playing m (set feeders place (Some more)))) seen turns)

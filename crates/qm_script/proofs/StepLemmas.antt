@@ -1,11 +1,11 @@
 -- A step that the monitor answers is a turn of the player.
-use Rattle.std.proofs.Common.{◌≡◌, ◌≢◌, ◌+◌, ◌-◌, ◌<◌, ℕ, List, [], ◌∷◌, ◌++◌, length, map, take, get_or, slice_get, unwrap_or, option_map, Option, Some, None, IfSome, IfOk, OnOk, Result, Ok, Err, refl, ap, sym, ◌∙◌, subst, arith}
+use Rattle.std.proofs.Common.{◌≡◌, ◌≢◌, ◌+◌, ◌-◌, ℕ, List, [], ◌∷◌, ◌++◌, length, map, take, option_map, Option, Some, None, IfOk, OnOk, Result, Ok, Err, refl, ap, sym, ◌∙◌, subst, arith}
 use Rattle.std.specs.Result.{result_err}
 use Rattle.std.proofs.Math.ListN.{set}
-use Rattle.std.proofs.lemmas.List.{length-append, length-set, map-set, map_push, take_at}
+use Rattle.std.proofs.lemmas.List.{length-append, map-set, map_push, take_at}
 use Rattle.qm_core.specs.{Legal.past_of, Next.Next, Next.View, Next.continued, Next.entry_of, Next.start_entry, Standing.sessions_of, Standing.named_of, Standing.starting_of}
 use Rattle.qm_core.specs.Next as step
-use Rattle.qm_core.specs.declared.{entries.Cause.Cause, entries.Entry.Entry, entries.StepFault.StepFault, entries.StepFault.TheVariants.Memory, inputs.Input.Input, requests.RequestName.RequestName, world.World.World}
+use Rattle.qm_core.specs.declared.{entries.Cause.Cause, entries.Entry.Entry, entries.StepFault.StepFault, entries.StepFault.TheVariants.Memory, requests.RequestName.RequestName, world.World.World}
 use Rattle.qm_core.specs.declared.entries.Entry.TheVariants as entry
 use Rattle.qm_core.proofs.Journals.{past_of-append}
 use Rattle.qm_script.specs.{Endings.stop_of, Kept.playing, Kept.fed_of, Kept.IsFedBy, Kept.Turns, Kept.StepTurns, Kept.OpenTurns, Kept.DropTurns, Players.Playing}
@@ -87,7 +87,7 @@ pub open_fed : (old new : View) (feeders : List (Option (List ℕ))) → IsFedBy
 open_fed old new feeders fed next =
     let past = past_of old.journal in
     let opened : sessions_of (past_of new.journal) ≡ sessions_of past ++ (length (sessions_of past) + 1) ∷ [] =
-        ap (λ (j : List Entry). sessions_of (past_of j)) next.journal ∙ ap sessions_of (past_of-append old.journal (entry.Open (length (sessions_of past) + 1))) in
+    ap (λ (j : List Entry). sessions_of (past_of j)) next.journal ∙ ap sessions_of (past_of-append old.journal (entry.Open (length (sessions_of past) + 1))) in
     let more : length (sessions_of (past_of new.journal)) ≡ length (sessions_of past) + 1 = ap (λ (l : List ℕ). length l) opened ∙ length-append (sessions_of past) ((length (sessions_of past) + 1) ∷ []) in
     let places = length-append feeders (None ∷ []) in
     record { count = omega (arith, more, places, fed.count) }

@@ -1,4 +1,4 @@
-use Rattle.std.proofs.Common.{◌+◌, ◌≤◌, length, arith, refl}
+use Rattle.std.proofs.Common.{◌+◌, arith}
 use Rattle.qm_script.proofs.TurnLemmas.{stop_finishes, line_goes_on}
 use Rattle.qm_script.proofs.replays.run.Goals as goal
 

@@ -1,6 +1,6 @@
-use Rattle.std.proofs.Common.{◌≡◌, ◌<◌, ◌++◌, ◌∙◌, List, Option, Some, None, ℕ, ap, arith, length, map, sym, subst}
+use Rattle.std.proofs.Common.{◌<◌, ◌++◌, ◌∙◌, List, Option, Some, ℕ, ap, arith, length, map, sym, subst}
 use Rattle.std.proofs.lemmas.List.{length-map, set-set}
-use Rattle.qm_script.specs.{Kept.FedTurns, Kept.fed_of, Kept.playing, Players.Playing}
+use Rattle.qm_script.specs.{Kept.fed_of, Players.Playing}
 use Rattle.qm_script.proofs.SessionLemmas.{fed_turns}
 use Rattle.qm_script.proofs.player.Player.feed_at.Goals as goal
 

@@ -1,4 +1,4 @@
-use Rattle.std.proofs.Common.{◌≡◌, ◌<◌, ◌∙◌, List, Option, ℕ, ap, arith, length, map, sym, subst}
+use Rattle.std.proofs.Common.{◌<◌, ◌∙◌, List, Option, ℕ, ap, arith, length, map, sym, subst}
 use Rattle.std.specs.List.{slice_get}
 use Rattle.std.proofs.lemmas.List.{length-map}
 use Rattle.std.proofs.lemmas.Result.{IfOk-weaker}
