@@ -40,7 +40,6 @@ const ROWS: &str =
 qmp_capabilities | {"enable": ["x"]} | GenericError Parameter 'enable[0]' does not accept this value
 qmp_capabilities | {"enable": [7]} | GenericError Invalid parameter type for 'enable[0]'
 qmp_capabilities | {"enable": ["oob", "x"]} | GenericError Parameter 'enable[1]' does not accept this value
-qmp_capabilities | {"enable": ["oob"]} | GenericError The capability oob is not built
 qmp_capabilities | {"enable": [], "x": 1} | GenericError Parameter 'x' is unexpected
 query-version | | CommandNotFound Expecting capabilities negotiation with 'qmp_capabilities'
 qmp_capabilities | {"enable": []} | return {}
@@ -87,7 +86,7 @@ job-finalize | {"id": "j"} | GenericError The command job-finalize is not built
 job-dismiss | {"id": "j"} | GenericError The command job-dismiss is not built
 job-dismiss | | GenericError Parameter 'id' is missing
 quit | {"now": true} | GenericError Parameter 'now' is unexpected
-quit | | GenericError The command quit is not built
+quit | | return {}
 "#;
 
 /// The request of a command, as it is printed.
@@ -180,6 +179,6 @@ fn commands_are_answered_by_the_schema(rt: HostRuntime) -> Result<(), Fail> {
     let script = script(&rt)?;
     let sink = played(rt.alloc(), world, script.as_str())?;
     assert_eq!(rt; sink.taken(), transcript(&rt)?.as_bytes());
-    assert_eq!(rt; ROWS.lines().count(), 52);
+    assert_eq!(rt; ROWS.lines().count(), 51);
     Ok(())
 }

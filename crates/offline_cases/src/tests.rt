@@ -14,6 +14,7 @@ mod name_rules;
 mod runs;
 mod schemas;
 mod served;
+mod several;
 mod type_rules;
 
 /// What is put for words that are outside the grammar.
@@ -211,6 +212,22 @@ fn runs_over_a_bind_file(rt: HostRuntime) -> Result<(), Fail> {
     let words = "replay --schema s1.json --bind b1.json a.script";
     let unread = run(alloc, words, files.as_str(), 2, 0)?;
     assert_eq!(rt; unread.as_str(), "6\nerror: cannot read b1.json\n");
+    Ok(())
+}
+
+#[test]
+fn runs_with_several_sessions(rt: HostRuntime) -> Result<(), Fail> {
+    let alloc = rt.alloc();
+    let files = format!(in alloc; "{}{}", bound::FILES, served::FILES)?;
+    for cases in [
+        several::URGENT,
+        several::TURNS,
+        several::ENDS,
+        several::QUITS,
+        several::REFUSED,
+    ] {
+        assert_eq!(rt; other_answers(alloc, files.as_str(), cases)?.as_str(), "");
+    }
     Ok(())
 }
 

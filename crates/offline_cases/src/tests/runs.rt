@@ -256,9 +256,10 @@ end 1
 $ replay a.script
 open
 open
-= 5
+= 0
 1 open 1
-error: script line 2: bad-line
+2 open 2
+end 2
 $ replay a.script
 open
 feed 1 7B
