@@ -16,6 +16,7 @@ mod schemas;
 mod served;
 mod several;
 mod type_rules;
+mod urgent;
 
 /// What is put for words that are outside the grammar.
 const USAGE: &str =
@@ -220,7 +221,7 @@ fn runs_with_several_sessions(rt: HostRuntime) -> Result<(), Fail> {
     let alloc = rt.alloc();
     let files = format!(in alloc; "{}{}", bound::FILES, served::FILES)?;
     for cases in [
-        several::URGENT,
+        urgent::PLAYED,
         several::TURNS,
         several::ENDS,
         several::QUITS,
