@@ -1,4 +1,4 @@
-//! One session from its opening to its end.
+//! A session from its opening to its end, and one that overruns beside another.
 
 use crate::playing::{GREETING, answer_text, line_at, opened, taken};
 use crate::worlds::prelude_world;
@@ -92,12 +92,20 @@ fn drop_overrun(monitor: &mut Monitor) -> Result<bool, Fail> {
     Ok(matches!(drained, Err(StepFault::NotDrained)))
 }
 
+/// Whether the second session is handed its greeting, and has not overrun.
+fn goes_on(monitor: &mut Monitor) -> Result<bool, Fail> {
+    let lines = monitor.take(2)?;
+    Ok(lines.len() == 1 && !monitor.is_overrun(2))
+}
+
 fn overrun(rt: &(impl Abort + AllocGlobal), monitor: &mut Monitor) -> Result<(), Fail> {
+    assert_eq!(rt; open(rt.alloc(), monitor)?, 2);
     for _ in 0..3 {
         assert!(rt; !overruns(rt.alloc(), monitor)?);
     }
     assert!(rt; overruns(rt.alloc(), monitor)?);
     assert_eq!(rt; taken(monitor)?.len(), 4);
+    assert!(rt; goes_on(monitor)?);
     assert!(rt; drop_overrun(monitor)?);
     Ok(())
 }
