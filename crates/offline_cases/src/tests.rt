@@ -226,6 +226,7 @@ fn runs_with_several_sessions(rt: HostRuntime) -> Result<(), Fail> {
         several::ENDS,
         several::QUITS,
         several::REFUSED,
+        several::ORDER,
     ] {
         assert_eq!(rt; other_answers(alloc, files.as_str(), cases)?.as_str(), "");
     }
