@@ -15,6 +15,7 @@ mod runs;
 mod schemas;
 mod served;
 mod several;
+mod steps;
 mod type_rules;
 mod urgent;
 
@@ -225,8 +226,8 @@ fn runs_with_several_sessions(rt: HostRuntime) -> Result<(), Fail> {
         several::TURNS,
         several::ENDS,
         several::QUITS,
-        several::REFUSED,
-        several::ORDER,
+        steps::OUT_OF_BAND,
+        steps::ORDER,
     ] {
         assert_eq!(rt; other_answers(alloc, files.as_str(), cases)?.as_str(), "");
     }
