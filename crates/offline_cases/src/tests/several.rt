@@ -6,7 +6,10 @@ $ replay --schema s1.json --bind b1.json a.script
 open
 text 1 {\"execute\":\"qmp_capabilities\",\"arguments\":{\"enable\":[\"oob\"]}}%
 open
-text 2 {\"execute\":\"qmp_capabilities\",\"arguments\":{\"enable\":[\"oob\"]}}%
+text 2 {\"execute\":\"qmp_capabilities\",\"arguments\":{\"enable\":[\"oob\"]}}
+admit 2
+start
+finish 0
 text 1 {\"execute\":\"get\"}
 admit 1
 text 1 {\"execute\":\"get\"}
@@ -194,7 +197,10 @@ $ replay --schema s1.json --bind b1.json a.script
 open
 text 1 {\"execute\":\"qmp_capabilities\",\"arguments\":{\"enable\":[\"oob\"]}}%
 open
-text 2 {\"execute\":\"qmp_capabilities\",\"arguments\":{\"enable\":[\"oob\"]}}%
+text 2 {\"execute\":\"qmp_capabilities\",\"arguments\":{\"enable\":[\"oob\"]}}
+admit 2
+start
+finish 0
 text 1 {\"execute\":\"quit\"}
 admit 1
 start
@@ -218,7 +224,10 @@ $ replay --schema s1.json --bind b1.json a.script
 open
 text 1 {\"execute\":\"qmp_capabilities\",\"arguments\":{\"enable\":[\"oob\"]}}%
 open
-text 2 {\"execute\":\"qmp_capabilities\",\"arguments\":{\"enable\":[\"oob\"]}}%
+text 2 {\"execute\":\"qmp_capabilities\",\"arguments\":{\"enable\":[\"oob\"]}}
+admit 2
+start
+finish 0
 text 1 {\"execute\":\"quit\"}
 admit 1
 start
