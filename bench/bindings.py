@@ -1,9 +1,9 @@
 """What a bind file says of a schema's commands, in Python, written from the rules alone.
 
 `binding_of` takes the text of a bind file and a table as bench/admission.py has it, and
-gives the binding or raises the first refusal. A `Monitor` answers the requests of one
-session by a binding: events, jobs and urgent requests are not built. A recipe, an act and
-a template stand as they do in the file.
+gives the binding or raises the first refusal. `Commands` answers the requests of any
+session by a binding: events and jobs are not built. A recipe, an act and a template stand
+as they do in the file. A mode is that of a session at the admission of a request.
 """
 import admission as A
 import checker as R
@@ -11,9 +11,12 @@ import json_texts as T
 
 ABSENT = object()
 VERSION = {'qemu': {'micro': 0, 'minor': 0, 'major': 1}, 'package': 'qmpd'}
+GREETING = {'QMP': {'version': VERSION, 'capabilities': ['oob']}}
+NEGOTIATING, COMMAND, COMMAND_OOB = 'Negotiating', 'Command', 'CommandOob'
+IN_BAND, URGENT = 'in', 'oob'
 SHAPES = {'cells': dict, 'tallies': list, 'commands': dict, 'events': dict}
 BEFORE = {it['command'] for it in R.PRELUDE if 'command' in it}
-NOT_BUILT = {it for it in BEFORE if it.startswith('job-')} | {'query-jobs', 'quit'}
+NOT_BUILT = {it for it in BEFORE if it.startswith('job-')} | {'query-jobs'}
 
 
 class Refusal(Exception):
@@ -173,49 +176,73 @@ class Store:
         return {} if value is ABSENT else value
 
 
-class Monitor:
-    """A monitor with one session, by what its replies leave behind."""
+def lane_of(request, mode):
+    """The lane of a request, a JSON value, that is admitted in a mode."""
+    is_urgent = isinstance(request, dict) and 'exec-oob' in request and 'execute' not in request
+    return URGENT if mode == COMMAND_OOB and is_urgent else IN_BAND
+
+
+def error(failure):
+    """The reply of a failure, without an id."""
+    return {'error': {'class': failure.sort, 'desc': failure.text}}
+
+
+def members_of(request, mode):
+    """The name of the command and the arguments, where a request has the form of one."""
+    if not isinstance(request, dict):
+        raise Failure('QMP input must be a JSON object')
+    verbs = ['execute', 'exec-oob'] if mode == COMMAND_OOB else ['execute']
+    for member in request:
+        if member not in verbs + ['arguments', 'id']:
+            raise Failure(f"QMP input member '{member}' is unexpected")
+    chosen = [it for it in verbs if it in request]
+    if len(chosen) == 2:
+        raise Failure("QMP input has both 'execute' and 'exec-oob'")
+    if not chosen:
+        raise Failure("QMP input lacks member 'execute'")
+    name, arguments = request[chosen[0]], request.get('arguments', {})
+    if not isinstance(name, str):
+        raise Failure(f"QMP input member '{chosen[0]}' must be a string")
+    if not isinstance(arguments, dict):
+        raise Failure("QMP input member 'arguments' must be an object")
+    return name, arguments
+
+
+class Commands:
+    """The commands of all sessions, by what their replies leave behind."""
 
     def __init__(self, table, binding):
         self.table, self.binding = table, binding
         self.store = Store(binding.cells, dict.fromkeys(binding.tallies, 0))
-        self.is_negotiating = True
+        self.is_stopped = False
 
-    def reply(self, request):
-        """The reply to a request, a JSON value that is no array."""
+    def reply(self, request, mode):
+        """The reply to a request, a JSON value, that was admitted in a mode; and the mode that it leads to."""
         try:
-            name, arguments = self.called(request)
+            name, arguments = self.called(request, mode)
             reply = {'return': self.done(name, arguments)}
+            mode = mode_after(name, arguments, mode)
         except Failure as failure:
-            reply = {'error': {'class': failure.sort, 'desc': failure.text}}
+            reply = error(failure)
         if isinstance(request, dict) and 'id' in request:
             reply['id'] = request['id']
-        return reply
+        return reply, mode
 
-    def called(self, request):
+    def called(self, request, mode):
         """The command and the arguments, where the verdict lets them through."""
-        if not isinstance(request, dict):
-            raise Failure('QMP input must be a JSON object')
-        for member in request:
-            if member not in ('execute', 'arguments', 'id'):
-                raise Failure(f"QMP input member '{member}' is unexpected")
-        if 'execute' not in request:
-            raise Failure("QMP input lacks member 'execute'")
-        name, arguments = request['execute'], request.get('arguments', {})
-        if not isinstance(name, str):
-            raise Failure("QMP input member 'execute' must be a string")
-        if not isinstance(arguments, dict):
-            raise Failure("QMP input member 'arguments' must be an object")
-        self.look_for(name)
+        name, arguments = members_of(request, mode)
+        self.look_for(name, mode)
+        if lane_of(request, mode) == URGENT and not self.table.of_name[name].get('allow-oob', False):
+            raise Failure(f'The command {name} does not support OOB')
         fault = self.table.fault(self.table.argument(name), arguments)
         if fault:
             raise Failure(A.fault_text(fault))
         return name, arguments
 
-    def look_for(self, name):
-        if self.is_negotiating and name != 'qmp_capabilities':
+    def look_for(self, name, mode):
+        if mode == NEGOTIATING and name != 'qmp_capabilities':
             raise Failure("Expecting capabilities negotiation with 'qmp_capabilities'", 'CommandNotFound')
-        if not self.is_negotiating and name == 'qmp_capabilities':
+        if mode != NEGOTIATING and name == 'qmp_capabilities':
             raise Failure('Capabilities negotiation is already complete, command ignored', 'CommandNotFound')
         if name not in self.table.names('command'):
             raise Failure(f'The command {name} has not been found', 'CommandNotFound')
@@ -223,7 +250,7 @@ class Monitor:
     def done(self, name, arguments):
         """What a command returns. One that fails leaves nothing."""
         if name in BEFORE:
-            return self.done_before(name, arguments)
+            return self.done_before(name)
         store = Store(self.store.cells, self.store.tallies)
         value = store.returned(self.binding.recipes.get(name, {}), arguments)
         if not self.table.fits(self.table.returned(name), value):
@@ -231,14 +258,18 @@ class Monitor:
         self.store = store
         return value
 
-    def done_before(self, name, arguments):
-        """A command that stands before each schema."""
+    def done_before(self, name):
+        """What a command returns that stands before each schema."""
         if name in NOT_BUILT:
             raise Failure(f'The command {name} is not built')
-        if name == 'qmp_capabilities':
-            if 'oob' in arguments.get('enable', []):
-                raise Failure('The capability oob is not built')
-            self.is_negotiating = False
+        self.is_stopped = self.is_stopped or name == 'quit'
         returned = {'query-version': lambda: VERSION, 'query-qmp-schema': lambda: self.table.introspection()[0],
                     'query-commands': lambda: [{'name': it} for it in self.table.names('command')]}
         return returned.get(name, dict)()
+
+
+def mode_after(name, arguments, mode):
+    """The mode of a session after a command that did not fail."""
+    if name != 'qmp_capabilities':
+        return mode
+    return COMMAND_OOB if 'oob' in arguments.get('enable', []) else COMMAND
