@@ -3,7 +3,7 @@ ghost use Rattle.std.specs.Result.{result_err};
 ghost use Rattle.qm_json.specs.Printing.{printed};
 ghost use Rattle.qm_caps.specs.Modes.{is_negotiating};
 ghost use Rattle.qm_core.specs.Kept.{kept_of};
-ghost use Rattle.qm_core.specs.Sessions.{told};
+ghost use Rattle.qm_core.specs.Sessions.{sent, while_open};
 ghost use Rattle.qm_core.specs.Legal.{past_of};
 ghost use Rattle.qm_core.specs.Next.{Next, Finish, FinishOob, is_open_out_of_band, is_running, names, session_refusal};
 ghost use Rattle.qm_plan.specs.Stores.{committed};
@@ -18,7 +18,7 @@ use crate::monitor::Monitor;
 use crate::plans::command;
 use crate::replies::{self, Reply};
 use crate::requests::Request;
-use crate::sessions::Session;
+use crate::sessions::Place;
 use crate::world::Setting;
 use qm_base::{NoMemory, Shared, Text};
 use qm_json::Json;
@@ -69,24 +69,42 @@ fn answer_to(
     })
 }
 
-/// Tells a session the reply to its running request, which may open a command mode. An error leaves
-/// the session as it was.
+/// Tells an open session the reply to its running request, which may open a command mode. An error
+/// leaves it as it was.
 fn answered(
-    state: &mut Session,
+    place: &mut Place,
     line: Shared<Text>,
     negotiates: bool,
     plan: &Option<Plan>,
 ) -> Result<(), NoMemory>
-    ensures ok { OnOk result (kept_of state.new ≡ record (told (kept_of state.old) line) {
-      mode = if is_negotiating state.old.mode && negotiates then mode_by plan.now else state.old.mode;
-    }) }
-    ensures places { state.new.waiting ≡ state.old.waiting }
-    ensures err { OnErr result (state.new ≡ state.old) }
+    ensures ok { OnOk result (kept_of place.new ≡ while_open (λ session. record (sent session line) {
+      mode = if is_negotiating session.mode && negotiates then mode_by plan.now else session.mode;
+    }) (kept_of place.old)) }
+    ensures err { OnErr result (place.new ≡ place.old) }
 {
-    state.tell(line)?;
+    let Place::Open(state) = place else {
+        return Ok(());
+    };
+    state.send(line)?;
     if state.mode.is_negotiating() && negotiates {
         state.mode = replies::mode(plan);
     }
+    Ok(())
+}
+
+/// Tells an open session the reply to its request that is open out of band. An error leaves it as
+/// it was.
+fn answered_out_of_band(place: &mut Place, line: Shared<Text>) -> Result<(), NoMemory>
+    ensures ok { OnOk result (kept_of place.new ≡ while_open (λ session. record (sent session line) {
+      open_out_of_band = None;
+    }) (kept_of place.old)) }
+    ensures err { OnErr result (place.new ≡ place.old) }
+{
+    let Place::Open(state) = place else {
+        return Ok(());
+    };
+    state.send(line)?;
+    state.open_out_of_band = None;
     Ok(())
 }
 
@@ -155,8 +173,8 @@ impl Monitor {
         )?;
         let moment = moment.max(self.last_moment);
         let bytes = self.finish_room(session, number, &plan, &reply, moment)?;
-        let state = &mut self.sessions[session as usize - 1];
-        answered(state, line, negotiates, &plan)?;
+        let place = &mut self.sessions[session as usize - 1];
+        answered(place, line, negotiates, &plan)?;
         self.stopped = stops | self.stopped;
         self.store.commit(changes);
         self.running = None;
@@ -221,9 +239,8 @@ impl Monitor {
         } = answer_to(alloc, &self.world, &self.store, request, command, &plan)?;
         let moment = moment.max(self.last_moment);
         let bytes = self.oob_room(session, number, &plan, &reply, moment)?;
-        let state = &mut self.sessions[session as usize - 1];
-        state.send(line)?;
-        state.open_out_of_band = None;
+        let place = &mut self.sessions[session as usize - 1];
+        answered_out_of_band(place, line)?;
         self.store.commit(changes);
         self.last_moment = moment;
         self.journal.put(
