@@ -9,7 +9,7 @@ use Rattle.qm_core.specs.declared.entries.{Cause.Cause, Entry.Entry}
 use Rattle.qm_core.specs.declared.entries.Entry.TheVariants.{Open, Admit, Start, Done, OobDone, Take, Eof, Drop}
 use Rattle.qm_core.specs.declared.{inputs.Input.Input}
 use Rattle.qm_core.specs.{Legal.AllFollow, Planned.mode_by}
-use Rattle.qm_core.specs.Sessions.{Kept, OfOpen, OfClosed, fresh, kept_at, open_in, rest_in, rest_of, sent, session_at, while_open}
+use Rattle.qm_core.specs.Sessions.{Kept, OfOpen, OfClosed, fresh, kept_at, open_in, rest_in, rest_of, sent, session_at, told_of, while_open}
 use Rattle.qm_core.specs.declared.sessions.Session.{Session}
 use Rattle.qm_core.specs.Standing.{sessions_of, was_opened, is_open, is_dropped, admits, admitted_of, mode_of, waiting_of, running_of, open_out_of_band_of, answers, last_start_of, next_request}
 use Rattle.qm_core.specs.Transcript.{untaken_of}
@@ -107,10 +107,7 @@ start-here s k past b legal =
     let last : last_start_of s (Start s k ∷ past) ≡ Some (length past + 1) = rw (same s) refl in
     rw (left, last) refl
 
--- the running request is answered, which an open session is told
-abbrev pub told_of : Option Plan → Bool → List ℕ → Session → Session
-told_of plan negotiates line session = record (sent session line) { mode = cond (is_negotiating session.mode && negotiates) (mode_by plan) session.mode }
-
+-- the running request is answered
 pub done-here : (s k : ℕ) (plan : Option Plan) (reply : Json) (moment : ℕ) (past : List Entry) → AllFollow past → was_opened s past ≡ true →
     while_open (told_of plan (answers (codes "qmp_capabilities") (running_of past) reply) (printed reply)) (kept_at past s) ≡ kept_at (Done s k plan reply moment ∷ past) s
 done-here s k plan reply moment past legal known = either (is_dropped s past) refl where
@@ -173,9 +170,9 @@ closed-none s (Open t ∷ past) legal h = closed-none s past legal.1 h
 closed-none s (Admit t k lane input ∷ past) legal h = either (t == s) refl (closed-none s past legal.1 h) where
   either : (b : Bool) → (t == s) ≡ b → open_out_of_band_of s past ≡ None → cond (b && not (is_in_band lane)) (Some record { session = t; number = k; mode = mode_of t past; input = input }) (open_out_of_band_of s past) ≡ None
   either true e none =
-      let open : is_open s past ≡ true = subst (λ (u : ℕ). is_open u past ≡ true) (equal t s e) legal.0.is_open in
+      let opened : is_open s past ≡ true = subst (λ (u : ℕ). is_open u past ≡ true) (equal t s e) legal.0.is_open in
       let closed : is_open s past ≡ false = rw h (ends_false (was_opened s past)) in
-      absurd (let no : true ≡ false = sym open ∙ closed in cc)
+      absurd (let no : true ≡ false = sym opened ∙ closed in cc)
   either false e none = none
 closed-none s (Start t k ∷ past) legal h = closed-none s past legal.1 h
 closed-none s (Done t k plan reply moment ∷ past) legal h = closed-none s past legal.1 h
@@ -189,3 +186,9 @@ closed-none s (Drop t cause ∷ past) legal h = either (t == s) h (λ g. closed-
   either : (b : Bool) → (b || is_dropped s past) ≡ true → (is_dropped s past ≡ true → open_out_of_band_of s past ≡ None) → cond b None (open_out_of_band_of s past) ≡ None
   either true g none = refl
   either false g none = none g
+
+pub kept-none : (s : ℕ) (past : List Entry) → AllFollow past → is_some (open_in (kept_at past s)) ≡ false → open_out_of_band_of s past ≡ None
+kept-none s past legal none = closed-none s past legal (dropped (is_dropped s past) (sym (kept-some s past) ∙ none)) where
+  dropped : (d : Bool) → not d ≡ false → d ≡ true
+  dropped true h = refl
+  dropped false h = absurd cc

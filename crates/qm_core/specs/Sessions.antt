@@ -1,10 +1,11 @@
 -- What stands in a journal of each session (this project's own rule).
 use Rattle.std.specs.Prelude.{ℕ, nat_le, Bool, false, not, if◌then◌else◌, ◌&&◌, ◌||◌, List, [], ◌∷◌, ◌++◌, length, Option, Some, None}
-use Rattle.qm_caps.specs.Lanes.{is_in_band}
+use Rattle.qm_caps.specs.{Lanes.is_in_band, Modes.is_negotiating}
+use Rattle.qm_plan.specs.declared.recipes.Plan.{Plan}
 use Rattle.qm_caps.specs.declared.mode.{Lane.Lane, Mode.TheVariants.Negotiating}
 use Rattle.qm_queue.specs.declared.turns.TurnItem.{TurnItem}
 use Rattle.qm_core.specs.Standing.{is_dropped, is_ended, is_ready, admitted_of, mode_of, waiting_of, open_out_of_band_of, last_start_of, turn_item}
-use Rattle.qm_core.specs.{Transcript.has_overrun, Transcript.untaken_of, Transcript.wire_of}
+use Rattle.qm_core.specs.{Planned.mode_by, Transcript.has_overrun, Transcript.untaken_of, Transcript.wire_of}
 use Rattle.qm_core.specs.declared.{TheConstants.MOST_UNTAKEN, entries.Entry.Entry, requests.Request.Request, sessions.ClosedSession.ClosedSession, sessions.Session.Session}
 
 -- what is kept of a session that was opened
@@ -83,3 +84,13 @@ sent session line = record session {
   outbox = if not session.overrun && fits session.outbox line then session.outbox ++ line ∷ [] else session.outbox;
   overrun = session.overrun || not (fits session.outbox line);
 }
+
+-- a session that is told the reply to its running request, which may open a command mode
+abbrev pub told_of : Option Plan → Bool → List ℕ → Session → Session
+told_of plan negotiates line session = record (sent session line) {
+  mode = if is_negotiating session.mode && negotiates then mode_by plan else session.mode;
+}
+
+-- a session that is told the reply to its request that is open out of band
+abbrev pub told_out_of_band : List ℕ → Session → Session
+told_out_of_band line session = record (sent session line) { open_out_of_band = None }

@@ -1,11 +1,11 @@
-ghost use Rattle.std.specs.Prelude.{◌≡◌, ◌≤◌, ◌<◌, [], length, false, true, not, is_some, IfOk, IfSome, OnOk};
+ghost use Rattle.std.specs.Prelude.{◌≡◌, ◌≤◌, ◌<◌, [], length, false, true, not, is_some, None, IfOk, IfSome, OnOk};
 ghost use Rattle.std.specs.Result.{result_err};
 ghost use Rattle.qm_core.specs.Legal.{HasRoom, IsLegal, past_of};
 ghost use Rattle.qm_core.specs.Next.{closed_refusal};
 ghost use Rattle.qm_core.specs.Planned.{planned_of};
 ghost use Rattle.qm_core.specs.State.{store_of};
 ghost use Rattle.qm_core.specs.Worlds.{IsReady};
-ghost use Rattle.qm_core.specs.Sessions.{OfOpen, fresh, kept_at, rest_of, session_at};
+ghost use Rattle.qm_core.specs.Sessions.{OfOpen, fresh, kept_at, open_in, rest_of, session_at};
 ghost use Rattle.qm_core.specs.Standing.{sessions_of, was_opened, admitted_of, is_dropped, is_stopped, in_flight_of, running_of, open_out_of_band_of, named_of};
 ghost use Rattle.qm_core.specs.Transcript.{has_overrun};
 
@@ -182,7 +182,9 @@ impl Monitor {
     /// What is kept of a session that was opened.
     fn place(&self, session: u32) -> &Place
         requires { was_opened session (past_of self.now.journal) ≡ true }
-        ensures { kept_of result.now ≡ kept_at (past_of self.now.journal) session }
+        ensures kept { kept_of result.now ≡ kept_at (past_of self.now.journal) session }
+        ensures closed { is_some (open_in (kept_of result.now)) ≡ false
+            → open_out_of_band_of session (past_of self.now.journal) ≡ None }
     {
         &self.sessions[session as usize - 1]
     }
@@ -193,6 +195,8 @@ impl Monitor {
         ensures some { is_some result ≡ not (is_dropped session (past_of self.now.journal)) }
         ensures session { IfSome result (λ state.
             state.now ≡ session_at (past_of self.now.journal) session) }
+        ensures closed { is_some result ≡ false
+            → open_out_of_band_of session (past_of self.now.journal) ≡ None }
     {
         self.place(session).open()
     }

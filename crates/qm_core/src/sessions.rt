@@ -1,10 +1,10 @@
-ghost use Rattle.std.specs.Prelude.{◌≡◌, is_some, slice_get, IfSome, IfOk, OnOk, OnErr};
+ghost use Rattle.std.specs.Prelude.{◌≡◌, [], is_some, slice_get, IfSome, IfOk, OnOk, OnErr};
 ghost use Rattle.std.specs.Option.{option_and_then};
 ghost use Rattle.qm_core.specs.Kept.{kept_of};
 ghost use Rattle.qm_core.specs.Sessions.{OfOpen, OfClosed, fresh, open_in, rest_in, rest_of, sent};
 ghost use Rattle.qm_core.specs.Standing.{named_of};
 
-use crate::outbox::Outbox;
+use crate::outbox::{Copies, Outbox};
 use crate::requests::{Request, RequestName};
 use crate::waiting::WaitingList;
 use qm_base::{NoMemory, Shared, Text};
@@ -72,6 +72,15 @@ impl Session {
             return Ok(());
         }
         self.outbox.put(line)
+    }
+
+    /// Moves the lines out of the outbox. It takes no memory.
+    pub(crate) fn take(&mut self) -> Copies
+        ensures kept { result.kept ≡ self.old.outbox }
+        ensures given { result.given ≡ self.old.outbox }
+        ensures rest { self.new ≡ record self.old { outbox = [] } }
+    {
+        self.outbox.take()
     }
 
     /// What stays of it once it is closed.

@@ -19,7 +19,7 @@ use crate::monitor::Monitor;
 use crate::offers::{Offer, Owners};
 use crate::plans::{call, command};
 use crate::requests::{Admitted, Begun, Request, RequestName, Started, Waiting};
-use crate::sessions::Place;
+use crate::sessions::{Place, Session};
 use crate::world::World;
 use qm_base::Shared;
 use qm_caps::{Lane, Mode, bound, classify};
@@ -45,9 +45,43 @@ struct Admission {
     bytes: u64,
 }
 
-/// Lets a request that was admitted to an open session wait for its turn, or be open out of band,
-/// and makes its call in the latter case. It takes no memory.
+/// Lets a request that was admitted wait for its turn, or be open out of band, and makes its call in
+/// the latter case. It takes no memory.
 fn take_in(
+    world: &World,
+    state: &mut Session,
+    turns: &mut TurnQueue,
+    request: Request,
+    lane: Lane,
+    document: Option<Shared<Json>>,
+) -> Option<Call>
+    requires place { is_in_band lane ≡ true → length state.old.waiting < PLACES }
+    requires opened { IsOpened request.session turns.old }
+    requires document { document ≡ document_of request.input }
+    ensures state { state.new ≡ with_request lane request state.old }
+    ensures turns { turns.new ≡ (if is_in_band lane
+        then set turns.old (request.session - 1) (Some record { session = request.session; last_start = state.old.last_start })
+        else turns.old) }
+    ensures call { result ≡ (if is_in_band lane then None else call_of world.now request) }
+{
+    let session = request.session;
+    state.admitted = request.number;
+    if lane.is_in_band() {
+        let last_start = state.last_start;
+        state.waiting.put(Waiting::new(request, document));
+        turns.put(TurnItem {
+            session,
+            last_start,
+        });
+        return None;
+    }
+    let call = call(command(world, &request), document);
+    state.open_out_of_band = Some(request);
+    call
+}
+
+/// The same at the place of an open session.
+fn take_into(
     world: &World,
     place: &mut Place,
     turns: &mut TurnQueue,
@@ -68,20 +102,7 @@ fn take_in(
     let Place::Open(state) = place else {
         unreachable!();
     };
-    let session = request.session;
-    state.admitted = request.number;
-    if lane.is_in_band() {
-        let last_start = state.last_start;
-        state.waiting.put(Waiting::new(request, document));
-        turns.put(TurnItem {
-            session,
-            last_start,
-        });
-        return None;
-    }
-    let call = call(command(world, &request), document);
-    state.open_out_of_band = Some(request);
-    call
+    take_in(world, state, turns, request, lane, document)
 }
 
 /// Takes the oldest waiting request of an open session out, and puts the session behind those that
@@ -208,7 +229,7 @@ impl Monitor {
             input: waiting,
         };
         let place = &mut self.sessions[session as usize - 1];
-        let call = take_in(
+        let call = take_into(
             self.world.world(),
             place,
             &mut self.turns,

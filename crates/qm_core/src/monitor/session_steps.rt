@@ -75,7 +75,7 @@ fn take_lines(place: &mut Place) -> Copies
     let Place::Open(state) = place else {
         unreachable!();
     };
-    state.outbox.take()
+    state.take()
 }
 
 impl Monitor {

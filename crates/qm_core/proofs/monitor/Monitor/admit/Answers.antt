@@ -9,8 +9,8 @@ use Rattle.qm_core.proofs.Keeping.{admit-turns, after_entry, few-places, is-open
 use Rattle.qm_core.proofs.Records.{admit-here, admit-other, open-changed}
 use Rattle.qm_core.proofs.monitor.Monitor.admit.Goals as goal
 
-pub take_in-call-requires-clause-place : goal.take_in-call-requires-clause-place
-take_in-call-requires-clause-place c =
+pub take_into-call-requires-clause-place : goal.take_into-call-requires-clause-place
+take_into-call-requires-clause-place c =
     let sound = c.self.invariant in
     let past = past_of c.self.inside.journal.items in
     let ok = rw (← c.self.view_is) at c.in_ok-number.ensures in
@@ -29,7 +29,7 @@ invariant_of-self c =
     let past = past_of c.self.inside.journal.items in
     let ok = rw (← c.self.view_is) at c.in_ok-number.ensures in
     let given = c.spend-kept.ensures in
-    let made = c.take_in-call.ensures in
+    let made = c.take_into-call.ensures in
     let s = c.args.session in
     let k = c.in_ok-number.field-0.number in
     let lane = c.in_ok-number.field-0.lane in
@@ -41,7 +41,7 @@ invariant_of-self c =
     let state = open-at past c.args.session c.self.inside.sessions.items c.index_mut-place.result.now _ sound.legal.ordered sound.sessions ok.«open» c.index_mut-place.ensures.value in
     let e = entry.Admit s k lane input in
     let request : record { session = s; number = k; mode = c.in_ok-number.field-0.mode; input = c.spend-kept.result.waiting } ≡ next_request s input past = rw (given.waiting, ok.number, ok.mode) refl in
-    let here : kept_of c.take_in-call.new.place ≡ kept_at (e ∷ past) s =
+    let here : kept_of c.take_into-call.new.place ≡ kept_at (e ∷ past) s =
     made.kept ∙ ap (λ (q : Request). while_open (with_request lane q) (kept_of old)) request ∙ ap (λ (x : Kept). while_open (with_request lane (next_request s input past)) x) held
     ∙ open-changed e s past (with_request lane (next_request s input past)) ok.«open».stays ok.«open».stays (admit-here s k lane input past ok.number) in
     let turns = (rw state at made.turns) ∙ admit-turns past s k lane input c.self.inside.turns sound.legal.ordered sound.turns (is-open past s ok.«open») in
@@ -59,7 +59,7 @@ invariant_of-self c =
       world = refl;
       limits = refl;
       journal = c.put.ensures;
-      sessions = sessions-changed past e s c.self.inside.sessions.items c.take_in-call.new.place sound.legal.ordered sound.sessions known refl here (λ t. admit-other s k t lane input past);
+      sessions = sessions-changed past e s c.self.inside.sessions.items c.take_into-call.new.place sound.legal.ordered sound.sessions known refl here (λ t. admit-other s k t lane input past);
       turns = turns;
       open_count = sound.open_count;
       running = record { request = sound.running.request; command = sound.running.command; known = sound.running.known };
@@ -81,7 +81,7 @@ pub returns-clause-value : goal.returns-clause-value
 returns-clause-value c =
     let ok = rw (← c.self.view_is) at c.in_ok-number.ensures in
     let given = c.spend-kept.ensures in
-    let made = c.take_in-call.ensures in
+    let made = c.take_into-call.ensures in
     let input = c.spend-kept.result.kept in
     let same : c.kept.result.now ≡ input = (let e : Some c.kept.result.now ≡ Some input = sym c.kept.ensures ∙ given.kept in cc) in
     rw (given.kept, ← c.self.view_is) (rw (made.call, c.world.ensures, given.waiting, ok.number, ok.mode, ok.lane, same) refl)

@@ -3,13 +3,13 @@ use Rattle.std.specs.Result.{result_err}
 use Rattle.qm_json.specs.Printing.{printed}
 use Rattle.qm_core.specs.{Kept.kept_of, Legal.past_of}
 use Rattle.qm_core.specs.Next.{Finish, entry_of, full_refusal, is_running}
-use Rattle.qm_core.specs.Sessions.{Kept, kept_at, while_open}
+use Rattle.qm_core.specs.Sessions.{Kept, kept_at, told_of, while_open}
 use Rattle.qm_core.specs.Standing.{answers, running_of, was_opened}
 use Rattle.qm_core.specs.declared.entries.{Entry.TheVariants.Done, StepFault.TheVariants.NotRunning}
 use Rattle.qm_core.specs.declared.requests.{RequestName.RequestName}
 use Rattle.qm_core.proofs.Keeping.{after_entry, kept-at, last-moment, may-come, next-entry, next-refused, not-refused, sessions-changed, sessions-count}
 use Rattle.qm_core.proofs.Pasts.{opened-within, running-opened}
-use Rattle.qm_core.proofs.Records.{done-here, done-other, told_of}
+use Rattle.qm_core.proofs.Records.{done-here, done-other}
 use Rattle.qm_core.proofs.monitor.Monitor.finish.Goals as goal
 
 pub returns-in_err-request-clause-next : goal.returns-in_err-request-clause-next
@@ -58,8 +58,8 @@ invariant_of-self-2 c =
     let come = may-come past c.args.moment c.self.inside.last_moment last sound.moment c.max-moment.ensures (search rules) in
     let wire : line ≡ printed reply = made.line ∙ ap printed (sym made.reply) in
     let mode : opens ≡ answers (codes "qmp_capabilities") (running_of past) reply = rw (ok.runs, made.reply) made.mode in
-    let here : kept_of c.answered.new.place ≡ kept_at (e ∷ past) s =
-    c.in_ok-answered.ensures.ok ∙ ap (λ (l : List ℕ). while_open (told_of plan opens l) (kept_of c.index_mut-place.result.now)) wire
+    let here : kept_of c.tell.new.place ≡ kept_at (e ∷ past) s =
+    c.in_ok-tell.ensures.ok ∙ ap (λ (l : List ℕ). while_open (told_of plan opens l) (kept_of c.index_mut-place.result.now)) wire
     ∙ ap (λ (b : Bool). while_open (told_of plan b (printed reply)) (kept_of c.index_mut-place.result.now)) mode
     ∙ ap (λ (x : Kept). while_open (told_of plan (answers (codes "qmp_capabilities") (running_of past) reply) (printed reply)) x) held
     ∙ done-here s k plan reply last past sound.legal.ordered known in
@@ -71,7 +71,7 @@ invariant_of-self-2 c =
       world = refl;
       limits = refl;
       journal = c.put.ensures;
-      sessions = sessions-changed past e s c.self.inside.sessions.items c.answered.new.place sound.legal.ordered sound.sessions known refl here (λ t. done-other s k t plan reply last past);
+      sessions = sessions-changed past e s c.self.inside.sessions.items c.tell.new.place sound.legal.ordered sound.sessions known refl here (λ t. done-other s k t plan reply last past);
       turns = sound.turns;
       open_count = sound.open_count;
       running = record { request = refl; command = refl; known = tt };

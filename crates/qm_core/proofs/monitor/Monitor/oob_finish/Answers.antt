@@ -3,7 +3,7 @@ use Rattle.std.specs.Result.{result_err}
 use Rattle.qm_json.specs.Printing.{printed}
 use Rattle.qm_core.specs.{Kept.kept_of, Legal.past_of}
 use Rattle.qm_core.specs.Next.{FinishOob, closed_refusal, entry_of, full_refusal, is_open_out_of_band}
-use Rattle.qm_core.specs.Sessions.{Kept, kept_at, sent, while_open}
+use Rattle.qm_core.specs.Sessions.{Kept, kept_at, told_out_of_band, while_open}
 use Rattle.qm_core.specs.declared.entries.{Entry.TheVariants.OobDone, StepFault.TheVariants.NotOpen}
 use Rattle.qm_core.specs.declared.requests.RequestName.{RequestName}
 use Rattle.qm_core.specs.declared.sessions.Session.{Session}
@@ -36,10 +36,9 @@ invariant_of-self-2 c =
     let held : kept_of c.index_mut-place.result.now ≡ kept_at past s = ap kept_of c.index_mut-place.ensures.value ∙ kept-at past s c.self.inside.sessions.items _ sound.legal.ordered sound.sessions known in
     let come = may-come past c.args.moment c.self.inside.last_moment last sound.moment c.max-moment.ensures (search rules) in
     let wire : line ≡ printed reply = made.line ∙ ap printed (sym made.reply) in
-    let sent_of : List ℕ → Session → Session = λ l x. record (sent x l) { open_out_of_band = None } in
-    let here : kept_of c.answered_out_of_band.new.place ≡ kept_at (e ∷ past) s =
-    c.in_ok-answered_out_of_band.ensures.ok ∙ ap (λ (l : List ℕ). while_open (sent_of l) (kept_of c.index_mut-place.result.now)) wire ∙ ap (λ (k : Kept). while_open (sent_of (printed reply)) k) held
-    ∙ open-changed e s past (sent_of (printed reply)) ok.«open».stays ok.«open».stays (oob-here s k plan reply last past sound.legal.ordered (is-open past s ok.«open»)) in
+    let here : kept_of c.tell_out_of_band.new.place ≡ kept_at (e ∷ past) s =
+    c.in_ok-tell_out_of_band.ensures.ok ∙ ap (λ (l : List ℕ). while_open (told_out_of_band l) (kept_of c.index_mut-place.result.now)) wire ∙ ap (λ (k : Kept). while_open (told_out_of_band (printed reply)) k) held
+    ∙ open-changed e s past (told_out_of_band (printed reply)) ok.«open».stays ok.«open».stays (oob-here s k plan reply last past sound.legal.ordered (is-open past s ok.«open»)) in
     after_entry c.self.inside _ e c.in_ok-bytes.bytes sound record {
       is_open = is-open past s ok.«open»;
       request = rw ok.opens (ap (λ (q : RequestName). Some q) (rw (ok.named.0, ok.named.1) refl));
@@ -48,7 +47,7 @@ invariant_of-self-2 c =
       world = refl;
       limits = refl;
       journal = c.put.ensures;
-      sessions = sessions-changed past e s c.self.inside.sessions.items c.answered_out_of_band.new.place sound.legal.ordered sound.sessions known refl here (λ t. oob-other s k t plan reply last past);
+      sessions = sessions-changed past e s c.self.inside.sessions.items c.tell_out_of_band.new.place sound.legal.ordered sound.sessions known refl here (λ t. oob-other s k t plan reply last past);
       turns = sound.turns;
       open_count = sound.open_count;
       running = record { request = sound.running.request; command = sound.running.command; known = sound.running.known };

@@ -22,7 +22,7 @@ invariant_of-self-2 c =
     let ok = rw (← c.self.view_is) at c.in_ok-session.ensures in
     let s = c.in_ok-session.field-0.session in
     let none = past-not-opened s past sound.legal.ordered (omega (arith, ok.next)) in
-    let new = c.in_ok-place.field-0 in
+    let new = c.in_ok-place.place in
     let line : c.in_ok-line.field-0 ≡ printed greeting_value = search rules in
     let here : kept_of new ≡ kept_at (Open s ∷ past) s =
     c.in_ok-place.ensures ∙ ap (λ (l : List ℕ). OfOpen (sent fresh l)) line ∙ sym (open-here s past sound.legal.ordered none) in

@@ -15,7 +15,7 @@ take_lines-kept-requires c =
     let past = past_of c.self.inside.journal.items in
     let ok = rw (← c.self.view_is) at c.in_ok-bytes.ensures in
     let state = open-at past c.args.session c.self.inside.sessions.items c.index_mut-place.result.now _ sound.legal.ordered sound.sessions ok.«open» c.index_mut-place.ensures.value in
-    rw state tt
+    rw state refl
 
 pub put-requires-clause-bytes : goal.put-requires-clause-bytes
 put-requires-clause-bytes c =
