@@ -174,7 +174,8 @@ impl Monitor {
     pub fn is_known(&self, session: u32) -> bool
         ensures known { result ≡ was_opened session (past_of self.now.journal) }
         ensures counted { result ≡ true → (0 < session) × (session ≤ length (sessions_of (past_of self.now.journal))) }
-        ensures untouched { result ≡ false → kept_at (past_of self.now.journal) session ≡ OfOpen fresh }
+        ensures untouched { result ≡ false
+            → kept_at (past_of self.now.journal) session ≡ OfOpen fresh }
     {
         session > 0 && session as usize <= self.sessions.len()
     }

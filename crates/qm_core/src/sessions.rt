@@ -11,7 +11,7 @@ use qm_base::{NoMemory, Shared, Text};
 use qm_caps::Mode;
 use std::alloc::Global;
 
-/// What a monitor keeps of a session that was opened.
+/// What a monitor keeps of a session that was opened. A closed one takes no memory but its place.
 #[derive(Drop)]
 pub(crate) enum Place {
     Open(Box<Session>),
@@ -117,7 +117,8 @@ impl Place {
 
     /// The request of an open session that waits first, by its name.
     pub(crate) fn first(&self) -> Option<RequestName>
-        ensures { result ≡ option_and_then (λ session. named_of (slice_get session.waiting 0)) (open_in (kept_of self.now)) }
+        ensures { let session = open_in (kept_of self.now) in
+            result ≡ option_and_then (λ it. named_of (slice_get it.waiting 0)) session }
     {
         match self {
             Place::Open(session) => session.waiting.first(),

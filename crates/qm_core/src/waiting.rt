@@ -29,7 +29,7 @@ impl Model for WaitingList {
 
     ghost view = { λ w. w.requests.items };
 
-    ghost invariant = { λ w. (length w.requests.items ≤ w.requests.capacity) × (w.requests.capacity ≡ PLACES) };
+    ghost invariant = { λ w. (length w.requests.items ≤ PLACES) × (w.requests.capacity ≡ PLACES) };
 }
 
 impl WaitingList {

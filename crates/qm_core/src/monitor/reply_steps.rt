@@ -104,8 +104,8 @@ fn tell(
     }
 }
 
-/// Tells a session the reply to its request that is open out of band. An error leaves the session as
-/// it was.
+/// Tells a session the reply to its request that is open out of band. An error leaves the session
+/// as it was.
 fn answered_out_of_band(state: &mut Session, line: Shared<Text>) -> Result<(), NoMemory>
     ensures ok { OnOk result (state.new ≡ told_out_of_band line state.old) }
     ensures err { OnErr result (state.new ≡ state.old) }

@@ -58,7 +58,8 @@ fn add(sessions: &mut Vec<Place>, turns: &mut TurnQueue, place: Place) -> Result
 
 /// Notes the end of the input of an open session.
 fn end_input(place: &mut Place)
-    ensures { kept_of place.new ≡ while_open (λ session. record session { ended = true }) (kept_of place.old) }
+    ensures { kept_of place.new
+        ≡ while_open (λ session. record session { ended = true }) (kept_of place.old) }
 {
     if let Place::Open(state) = place {
         state.ended = true;
@@ -70,7 +71,8 @@ fn take_lines(place: &mut Place) -> Copies
     requires { IsSome (open_in (kept_of place.old)) }
     ensures lines { IfSome (open_in (kept_of place.old)) (λ session.
         (result.kept ≡ session.outbox) × (result.given ≡ session.outbox)) }
-    ensures kept { kept_of place.new ≡ while_open (λ session. record session { outbox = [] }) (kept_of place.old) }
+    ensures kept { kept_of place.new
+        ≡ while_open (λ session. record session { outbox = [] }) (kept_of place.old) }
 {
     let Place::Open(state) = place else {
         unreachable!();
