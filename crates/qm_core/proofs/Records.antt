@@ -2,13 +2,13 @@
 use Rattle.std.proofs.Common.{◌≡◌, ◌≢◌, ℕ, ◌+◌, ◌==◌, Bool, true, false, cond, not, is_some, ◌&&◌, ◌||◌, Option, Some, None, List, [], ◌∷◌, ◌++◌, length, codes, refl, ap, sym, ◌∙◌, subst, arith}
 use Rattle.std.proofs.lemmas.List.Folds.{list_any-append}
 use Rattle.qm_json.specs.{Printing.printed, declared.value.Json.Json}
-use Rattle.qm_caps.specs.{Greetings.greeting_value, Lanes.is_in_band, Modes.is_negotiating}
+use Rattle.qm_caps.specs.{Greetings.greeting_value, Lanes.is_in_band}
 use Rattle.qm_caps.specs.declared.mode.Lane.{Lane, TheVariants.InBand, TheVariants.Oob}
 use Rattle.qm_plan.specs.declared.recipes.Plan.{Plan}
 use Rattle.qm_core.specs.declared.entries.{Cause.Cause, Entry.Entry}
 use Rattle.qm_core.specs.declared.entries.Entry.TheVariants.{Open, Admit, Start, Done, OobDone, Take, Eof, Drop}
 use Rattle.qm_core.specs.declared.{inputs.Input.Input}
-use Rattle.qm_core.specs.{Legal.AllFollow, Planned.mode_by}
+use Rattle.qm_core.specs.{Legal.AllFollow}
 use Rattle.qm_core.specs.Sessions.{Kept, OfOpen, OfClosed, fresh, kept_at, open_in, rest_in, rest_of, sent, session_at, told_of, while_open}
 use Rattle.qm_core.specs.declared.sessions.Session.{Session}
 use Rattle.qm_core.specs.Standing.{sessions_of, was_opened, is_open, is_dropped, admits, admitted_of, mode_of, waiting_of, running_of, open_out_of_band_of, answers, last_start_of, next_request}

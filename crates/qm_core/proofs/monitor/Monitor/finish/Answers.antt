@@ -1,4 +1,4 @@
-use Rattle.std.proofs.Common.{◌≡◌, ◌∷◌, ◌∙◌, ℕ, Bool, true, ◌&&◌, List, cond, codes, Some, None, ap, arith, refl, rules, subst, sym}
+use Rattle.std.proofs.Common.{◌≡◌, ◌∷◌, ◌∙◌, ℕ, Bool, true, List, codes, Some, None, ap, arith, refl, rules, subst, sym}
 use Rattle.std.specs.Result.{result_err}
 use Rattle.qm_json.specs.Printing.{printed}
 use Rattle.qm_core.specs.{Kept.kept_of, Legal.past_of}

@@ -1,4 +1,4 @@
-use Rattle.std.proofs.Common.{◌≡◌, ◌∷◌, ◌∙◌, ℕ, List, Some, None, ap, refl, rules, sym}
+use Rattle.std.proofs.Common.{◌≡◌, ◌∷◌, ◌∙◌, ℕ, List, Some, ap, refl, rules, sym}
 use Rattle.std.specs.Result.{result_err}
 use Rattle.qm_json.specs.Printing.{printed}
 use Rattle.qm_core.specs.{Kept.kept_of, Legal.past_of}
@@ -6,7 +6,6 @@ use Rattle.qm_core.specs.Next.{FinishOob, closed_refusal, entry_of, full_refusal
 use Rattle.qm_core.specs.Sessions.{Kept, kept_at, told_out_of_band, while_open}
 use Rattle.qm_core.specs.declared.entries.{Entry.TheVariants.OobDone, StepFault.TheVariants.NotOpen}
 use Rattle.qm_core.specs.declared.requests.RequestName.{RequestName}
-use Rattle.qm_core.specs.declared.sessions.Session.{Session}
 use Rattle.qm_core.proofs.Keeping.{after_entry, is-open, kept-at, last-moment, may-come, next-refused, sessions-changed}
 use Rattle.qm_core.proofs.Records.{oob-here, oob-other, open-changed}
 use Rattle.qm_core.proofs.monitor.Monitor.oob_finish.Goals as goal
