@@ -139,7 +139,12 @@ fn there_and_back(
 #[test]
 fn urgent_overtakes_eight(rt: HostRuntime) -> Result<(), Fail> {
     let mut sink = MemorySink::new(rt.alloc(), CallList::new(rt.alloc()));
-    let read = there_and_back(rt.alloc(), URGENT_OVERTAKES_EIGHT.as_bytes(), "end 15\n", &mut sink)?;
+    let read = there_and_back(
+        rt.alloc(),
+        URGENT_OVERTAKES_EIGHT.as_bytes(),
+        "end 15\n",
+        &mut sink,
+    )?;
     assert!(rt; read);
     assert_eq!(rt; sink.taken(), URGENT_OVERTAKES_EIGHT.as_bytes());
     Ok(())
