@@ -1,4 +1,5 @@
-ghost use Rattle.std.specs.Prelude.{◌≡◌, option_map, codes, Option, Some};
+ghost use Rattle.std.specs.Prelude.{◌≡◌, position, option_map, codes, Option, Some};
+ghost use Rattle.qm_history.specs.Words.{is_blank};
 ghost use Rattle.std.specs.Option.{option_copied, option_and_then};
 ghost use Rattle.qm_script.specs.Orders.{after_word as after_word_of, session_after as session_after_of, long_order_of, text_order as text_order_of, feed_order as feed_order_of, oob_order as oob_order_of, drop_order as drop_order_of, order_of, is_skipped as is_skipped_line, fed_by as fed_by_of};
 ghost use Rattle.qm_script.specs.declared.orders.Order.TheVariants.{Admit, Finish, Take, Eof};
@@ -44,11 +45,16 @@ fn after_word<'a>(word: &[u8], line: &'a [u8]) -> Option<&'a [u8]>
     }
 }
 
+fn blank_at(text: &[u8]) -> Option<usize>
+    ensures { result ≡ position is_blank text.now }
+{
+    text.iter().position(|byte| *byte == b' ')
+}
+
 fn text_order(text: &[u8]) -> Option<Order>
     ensures { result ≡ text_order_of text.now }
 {
-    let blank = text.iter().position(|byte| *byte == b' ');
-    if blank.is_none() {
+    if blank_at(text).is_none() {
         return None;
     }
     Some(Order::Text(session(before_blank(text))?))
