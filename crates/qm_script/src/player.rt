@@ -330,12 +330,7 @@ impl Player {
         )
     }
 
-    fn oob_at(
-        &mut self,
-        alloc: Global,
-        session: u32,
-        moment: u64,
-    ) -> Result<Option<Stop>, NoMemory>
+    fn oob_at(&mut self, alloc: Global, session: u32, moment: u64) -> Result<Option<Stop>, NoMemory>
         requires { TakesMore self.old session }
         ensures { IfOk result (λ stop. OobTurns self.old session moment stop self.new) }
     {
