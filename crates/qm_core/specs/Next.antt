@@ -2,7 +2,7 @@
 use Rattle.std.specs.Prelude.{◌≡◌, ℕ, ◌+◌, ◌^◌, ◌<◌, ◌==◌, nat_le, max, Bool, false, if◌then◌else◌, ◌&&◌, ◌||◌, List, [], ◌∷◌, ◌++◌, length, reverse, Option, Some, None, is_some, is_none, refl}
 use Rattle.std.specs.{Coded.Coded, Coded.code_by, Coded.coded×, Coded.coded_list, Coded.coded_ℕ, Option.option_or}
 use Rattle.qm_caps.specs.{Lanes.is_in_band, Modes.bound_of}
-use Rattle.qm_core.specs.{Inputs.IsCleanInput, Inputs.lane_of, Legal.past_of, Legal.is_within, Answers.reply_of, Order.cause_holds, Planned.planned_of, State.store_of}
+use Rattle.qm_core.specs.{Inputs.IsCleanInput, Inputs.lane_of, Legal.past_of, Legal.is_within, Answers.reply_of, Order.cause_holds, Planned.planned_of, State.state_of}
 use Rattle.qm_core.specs.Standing.{sessions_of, was_opened, is_dropped, is_ended, open_count_of, admitted_of, in_flight_of, mode_of, running_of, open_out_of_band_of, is_stopped, starting_of, named_of, last_moment_of}
 use Rattle.qm_core.specs.{Texts.text_of, Texts.entry_text_of, Transcript.untaken_of, declared.TheConstants.MOST_SESSIONS}
 use Rattle.qm_core.specs.declared.entries.{Cause.Cause, Cause.TheVariants.Ended, Entry.Entry, StepFault.StepFault}
@@ -38,7 +38,7 @@ start_entry (Some q) = entry.Start q.session q.number
 -- the entry of a request's plan and reply, at a moment that is not before any other
 abbrev pub answer_entry : World → List Entry → (ℕ → ℕ → Option Plan → Json → ℕ → Entry) → Option Request → ℕ → ℕ → ℕ → Entry
 answer_entry world past done request s k moment =
-    done s k (planned_of world request) (reply_of world (store_of world past) request) (max moment (last_moment_of past))
+    done s k (planned_of world request) (reply_of world (state_of world past) request) (max moment (last_moment_of past))
 
 -- the entry of a step that is not refused
 abbrev pub entry_of : World → List Entry → Step → Entry
