@@ -1,5 +1,6 @@
 -- What comes of a command that takes effect (this project's own rule).
-use Rattle.std.specs.Prelude.{ℕ, nat_lt, Bool, true, false, not, cond, ◌&&◌, List, [], ◌++◌, codes, length, map, find, Option, Some, None, Result, Ok, Err}
+use Rattle.std.specs.Prelude.{◌≡◌, ℕ, nat_lt, Bool, true, false, not, cond, ◌&&◌, List, [], ◌++◌, codes, length, map, find, Option, Some, None, Result, Ok, Err}
+use Rattle.std.specs.List.{list_all}
 use Rattle.qm_json.specs.declared.value.Json.{Json, TheVariants.Obj, TheVariants.Arr, TheVariants.Str}
 use Rattle.qapi_types.specs.declared.parts.CommandDef.{CommandDef}
 use Rattle.qm_admit.specs.declared.verdict.Verdict.{Verdict as Admission, TheVariants.Yes, TheVariants.No}
@@ -8,8 +9,7 @@ use Rattle.qm_caps.specs.Greetings.{named, version_value}
 use Rattle.qm_jobs.specs.{Jobs.Job, Listing.list_of}
 use Rattle.qm_plan.specs.{Applying.Outcome, Applying.applied_of, Stores.Contents, declared.events.Raised.Raised, declared.facts.Facts.Facts, declared.recipes.Plan.Plan}
 use Rattle.qm_plan.specs.declared.applied.ApplyFault.{ApplyFault, TheVariants.Failed, TheVariants.TallyFull, TheVariants.Memory}
-use Rattle.qm_plan.specs.declared.templates.Template.{Template, out-Template, TheOpen.Template-F, TheOpen.TemplateMember-F}
-use Rattle.qm_plan.specs.declared.templates.TemplateMember.{TemplateMember}
+use Rattle.qm_plan.specs.declared.templates.{Template.Template, Template.out-Template, Template.TheOpen.Template-F, TemplateMember.TemplateMember}
 use Rattle.qm_plan.specs.declared.templates.Template.TheOpen as layer
 use Rattle.qm_core.specs.{Events.event_name_of, JobActs.Raising, JobActs.acts_raising, declared.world.World.World}
 
@@ -83,6 +83,10 @@ is_yes (No fault path) = false
 -- the event is one of the schema's, and its data fits its type
 abbrev pub is_fit : World → Raised → Bool
 is_fit world r = nat_lt r.event (length world.schema.events) && is_yes (admission_of (event_misfit world.schema r.event r.payload))
+
+-- each event is one of the schema's
+abbrev pub AreKnown : World → List Raised → Type 0
+AreKnown world raised = list_all (λ r. nat_lt r.event (length world.schema.events)) raised ≡ true
 
 abbrev pub unfit_text : World → Raised → List ℕ
 unfit_text world r = codes "The data of event " ++ event_name_of world r.event ++ codes " does not fit its type"
