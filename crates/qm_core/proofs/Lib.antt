@@ -3,10 +3,12 @@ pub mod Candidates
 pub mod Counting
 pub mod Counts
 pub mod DrainedLaws
+pub mod Fitting
 pub mod Holding
 pub mod Ids
 pub mod InOrder
 pub mod JournalLaws
+pub mod JobActs
 pub mod Journals
 pub mod Keeping
 pub mod Lists

@@ -62,4 +62,4 @@ pub record IsLeft (facts : Facts) (store : Contents) (acts : List Act) (left : L
 -- an act was done, and the others are left
 pub record IsDone (world : World) (facts : Facts) (store : Contents) (table : List Job) (act : Act) (acts : List Act) (old new : HeldRaising) (left : Left) : Type 0 where
   pub raising : raised_before old.raised (act_raising world facts store (unwrap_or old.jobs table) act) ≡ Ok (raising_in table new)
-  pub left : IsLeft facts store acts left
+  pub rest : IsLeft facts store acts left

@@ -1,5 +1,5 @@
 -- What comes of a command that takes effect (this project's own rule).
-use Rattle.std.specs.Prelude.{◌≡◌, ℕ, nat_lt, Bool, true, false, not, cond, ◌&&◌, List, [], ◌++◌, codes, length, map, find, Option, Some, None, Result, Ok, Err}
+use Rattle.std.specs.Prelude.{◌≡◌, ℕ, nat_lt, Bool, true, false, not, cond, ◌&&◌, List, [], ◌∷◌, ◌++◌, codes, length, map, find, Option, Some, None, Result, Ok, Err}
 use Rattle.std.specs.List.{list_all}
 use Rattle.qm_json.specs.declared.value.Json.{Json, TheVariants.Obj, TheVariants.Arr, TheVariants.Str}
 use Rattle.qapi_types.specs.declared.parts.CommandDef.{CommandDef}

@@ -1,5 +1,6 @@
 -- The state at a place of a journal (this project's own rule).
-use Rattle.std.specs.Prelude.{if◌then◌else◌, List, [], ◌∷◌, Option, Some, None, result_ok}
+use Rattle.std.specs.Prelude.{if◌then◌else◌, List, [], ◌∷◌, Option, Some, None}
+use Rattle.std.specs.Result.{result_ok}
 use Rattle.qm_json.specs.declared.value.Json.{Json}
 use Rattle.qm_plan.specs.{Stores.first_of, declared.events.Raised.Raised, declared.recipes.Plan.Plan}
 use Rattle.qm_core.specs.{Effects.State, Effects.Effect, Effects.carried_out, Effects.effect_of, Planned.plan_for, Replies.is_return, declared.entries.Entry.Entry}

@@ -1,5 +1,5 @@
-ghost use Rattle.std.specs.Prelude.{ℕ, List, IfOk};
-ghost use Rattle.qm_core.specs.Carried.{IfText};
+ghost use Rattle.std.specs.Prelude.{◌≡◌, IfOk, OnErr};
+ghost use Rattle.qm_core.specs.declared.failing.Failing.TheVariants.{Told, Memory};
 
 use qm_base::{NoMemory, Text};
 
@@ -25,7 +25,8 @@ impl From<NoMemory> for Failing {
 
 /// The failure that a text tells, where there was memory for it.
 pub(crate) fn told(text: Result<Text, NoMemory>) -> Failing
-    ensures { (holds : List ℕ → Type 0) → IfOk text holds → IfText result holds }
+    ensures ok { IfOk text (λ text. result ≡ Told text) }
+    ensures err { OnErr text (result ≡ Memory) }
 {
     match text {
         Ok(text) => Failing::Told(text),

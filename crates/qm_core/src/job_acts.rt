@@ -301,6 +301,7 @@ fn next_job_act(
 }
 
 /// Does one act, which is the first of those that are left.
+#[tactic(auto, using(crate::proofs::JobActs::raise_done, crate::proofs::JobActs::start_done, crate::proofs::JobActs::ask_done, crate::proofs::JobActs::start_fails, crate::proofs::JobActs::ask_fails))]
 fn step(
     alloc: Global,
     world: &World,
@@ -318,9 +319,8 @@ fn step(
 {
     match act {
         Act::Raise { .. } => Ok(raise(left, raising)?),
-        Act::Start { .. } | Act::OnJob { .. } => {
-            next_job_act(alloc, world, jobs, left, raising)
-        }
+        Act::Start { .. } => next_job_act(alloc, world, jobs, left, raising),
+        Act::OnJob { .. } => next_job_act(alloc, world, jobs, left, raising),
         _ => Ok(()),
     }
 }
@@ -333,10 +333,10 @@ pub(crate) fn acts_raising(
     acts: &[Act],
     mut left: Left<'_>,
 ) -> Result<Raising, Failing>
-    ensures ok { IfOk result (λ raising. (facts : Facts) (store : Contents) → IsLeft facts store acts.now left →
+    ensures ok { IfOk result (λ raising. (facts : Facts) (store : Contents) → IsLeft facts store acts.now left.entry →
         acts_raising world.now facts store jobs.now acts.now ≡ Ok (raising_in jobs.now raising)) }
     ensures err { IfErr result (λ fault. IfText fault (λ text. (facts : Facts) (store : Contents) →
-        IsLeft facts store acts.now left → acts_raising world.now facts store jobs.now acts.now ≡ Err text)) }
+        IsLeft facts store acts.now left.entry → acts_raising world.now facts store jobs.now acts.now ≡ Err text)) }
 {
     let mut raising = Raising {
         jobs: None,

@@ -1,6 +1,7 @@
-ghost use Rattle.std.specs.Prelude.{◌≡◌, ◌<◌, List, [], ◌∷◌, ◌++◌, length, codes, false, option_map, result_ok, IfOk, IfSome, Some, None, Err, slice_get};
+ghost use Rattle.std.specs.Prelude.{◌≡◌, ◌<◌, List, [], ◌∷◌, ◌++◌, length, codes, false, option_map, IfOk, IfSome, Some, None, Err, slice_get};
 ghost use Rattle.std.specs.List.{filter_map};
 ghost use Rattle.std.specs.Option.{option_copied};
+ghost use Rattle.std.specs.Result.{result_ok};
 ghost use Rattle.qm_json.specs.Members.{has_name};
 ghost use Rattle.qm_caps.specs.Greetings.{named};
 ghost use Rattle.qm_json.specs.declared.value.Json.TheVariants as json;
