@@ -1,5 +1,5 @@
 -- Effects whose events and return fit their types.
-use Rattle.std.proofs.Common.{◌≡◌, ℕ, ◌×◌, Bool, true, false, not, cond, ◌&&◌, nat_lt, List, [], ◌∷◌, length, codes, find, Option, Some, None, Err, refl, ap, ◌∙◌}
+use Rattle.std.proofs.Common.{◌≡◌, ℕ, Bool, true, false, not, cond, ◌&&◌, nat_lt, List, [], ◌∷◌, length, codes, find, Option, Some, None, Err, refl, ap, ◌∙◌}
 use Rattle.std.specs.List.{list_all}
 use Rattle.qm_admit.specs.declared.verdict.Verdict.{Verdict as Admission, TheVariants.Yes, TheVariants.No}
 use Rattle.qm_admit.specs.Misfits.{event_misfit, return_misfit, verdict_of as admission_of}

@@ -1,5 +1,6 @@
 -- What acts raise, one after the other.
-use Rattle.std.proofs.Common.{◌≡◌, ℕ, ◌×◌, Bool, List, [], ◌∷◌, ◌++◌, unwrap_or, Option, Result, Ok, Err, refl, ap, sym, ◌∙◌, append_assoc}
+use Rattle.std.proofs.Common.{◌≡◌, ℕ, ◌+◌, ◌<◌, Bool, List, [], ◌∷◌, ◌++◌, length, get_or, drop, unwrap_or, Option, Result, Ok, Err, IfErr, OnOk, refl, ap, sym, subst, ◌∙◌, append_assoc}
+use Rattle.std.proofs.lemmas.List.{drop_more}
 use Rattle.std.specs.List.{filter_map}
 use Rattle.qm_jobs.specs.Jobs.{Job}
 use Rattle.qm_plan.specs.{Applying.job_act_of, Applying.payload_of, Applying.raised_of as event_of, Stores.Contents, Templates.value_of}
@@ -7,7 +8,8 @@ use Rattle.qm_plan.specs.declared.{events.Raised.Raised, facts.Facts.Facts, reci
 use Rattle.qm_plan.specs.declared.recipes.Act.TheVariants.{Raise, Start, OnJob}
 use Rattle.qm_plan.specs.declared.templates.Template.{Template, TheVariants.Const, TheViews.outs-Const}
 use Rattle.qm_json.specs.declared.value.Json.{Json}
-use Rattle.qm_core.specs.{Carried.IsDone, Carried.IsLeft, Carried.held_id, Carried.held_raising, Carried.id_layer, Carried.left_events, Carried.left_jobs, Carried.raising_in, JobActs.Raising, JobActs.act_raising, JobActs.acts_raising, JobActs.asking, JobActs.id_in, JobActs.raised_before, JobActs.starting, JobActs.then_raising, declared.world.World.World}
+use Rattle.qm_core.specs.{Carried.IfText, Carried.IsDone, Carried.IsLeft, Carried.held_id, Carried.held_raising, Carried.id_layer, Carried.left_events, Carried.left_jobs, Carried.raising_in, JobActs.Raising, JobActs.act_raising, JobActs.acts_raising, JobActs.asking, JobActs.id_in, JobActs.raised_before, JobActs.starting, JobActs.then_raising, declared.world.World.World}
+use Rattle.qm_core.specs.declared.failing.Failing.{Failing, TheVariants.Told, TheVariants.Memory}
 use Rattle.qm_core.specs.declared.job_acts.{Left.Left, Raising.Raising as HeldRaising}
 
 -- the id of an act that is filled in is that of its value
@@ -19,11 +21,11 @@ raised_twice : (first second : List Raised) (made : Result Raising (List ℕ)) �
 raised_twice first second (Ok more) = ap (λ (raised : List Raised). Ok (record { table = more.table; raised = raised })) (sym (append_assoc first second more.raised))
 raised_twice first second (Err text) = refl
 
-table_of : Result Raising (List ℕ) → List Job
+abbrev table_of : Result Raising (List ℕ) → List Job
 table_of (Ok r) = r.table
 table_of (Err text) = []
 
-raised_of : Result Raising (List ℕ) → List Raised
+abbrev raised_of : Result Raising (List ℕ) → List Raised
 raised_of (Ok r) = r.raised
 raised_of (Err text) = []
 
@@ -107,3 +109,43 @@ pub ask_fails : (world : World) (facts : Facts) (store : Contents) (table : List
     act_raising world facts store table (OnJob verb id) ≡ Err text
 ask_fails world facts store table verb id acts left text is goes =
     sym (ask_held world facts store table verb id) ∙ goes _ _ is.jobs
+
+-- what a text tells, made of what it told before
+if_text : (fault : Failing) {P Q : List ℕ → Type 0} → ((text : List ℕ) → P text → Q text) → IfText fault P → IfText fault Q
+if_text (Told text) goes p = goes text p
+if_text Memory goes p = p
+
+pub if_err : {A : Type 0} (r : Result A Failing) {P Q : List ℕ → Type 0} → ((text : List ℕ) → P text → Q text) → IfErr r (λ fault. IfText fault P) → IfErr r (λ fault. IfText fault Q)
+if_err (Ok a) goes p = p
+if_err (Err fault) goes p = if_text fault goes p
+
+pub if_fault : {A : Type 0} (r : Result A Failing) (fault : Failing) {P Q : List ℕ → Type 0} → r ≡ Err fault → ((text : List ℕ) → P text → Q text) → IfText fault P → IfErr r (λ fault. IfText fault Q)
+if_fault r fault is goes p = rw is (if_text fault goes p)
+
+pub on_ok : {A E : Type 0} (r : Result A E) {P Q : Type 0} → (P → Q) → OnOk r P → OnOk r Q
+on_ok (Ok a) goes p = goes p
+on_ok (Err fault) goes p = p
+
+-- of the acts from a place on, the first is done
+pub step_on : (world : World) (facts : Facts) (store : Contents) (table : List Job) (acts : List Act) (i : ℕ) (act : Act) (whole : Result Raising (List ℕ)) (old new : HeldRaising) (before after : Left) →
+    i < length acts → act ≡ get_or acts i act →
+    ((f : Facts) (s : Contents) (others : List Act) → IsLeft f s (act ∷ others) before → IsDone world f s table act others old new after) →
+    IsLeft facts store (drop i acts) before × (raised_before old.raised (acts_raising world facts store (unwrap_or old.jobs table) (drop i acts)) ≡ whole) →
+    IsLeft facts store (drop (i + 1) acts) after × (raised_before new.raised (acts_raising world facts store (unwrap_or new.jobs table) (drop (i + 1) acts)) ≡ whole)
+step_on world facts store table acts i act whole old new before after low at goes so =
+    let rest : drop i acts ≡ act ∷ drop (i + 1) acts = drop_more acts i act low ∙ ap (λ (a : Act). a ∷ drop (i + 1) acts) (sym at) in
+    let done = goes facts store (drop (i + 1) acts) (subst (λ (l : List Act). IsLeft facts store l before) rest so.0) in
+    (done.rest, act_done world facts store table act (drop (i + 1) acts) old new done.raising
+    ∙ ap (λ (l : List Act). raised_before old.raised (acts_raising world facts store (unwrap_or old.jobs table) l)) (sym rest) ∙ so.1)
+
+-- it fails
+pub step_fails : (world : World) (facts : Facts) (store : Contents) (table : List Job) (acts : List Act) (i : ℕ) (act : Act) (whole : Result Raising (List ℕ)) (old : HeldRaising) (before : Left) (text : List ℕ) →
+    i < length acts → act ≡ get_or acts i act →
+    ((f : Facts) (s : Contents) (others : List Act) → IsLeft f s (act ∷ others) before → act_raising world f s (unwrap_or old.jobs table) act ≡ Err text) →
+    IsLeft facts store (drop i acts) before × (raised_before old.raised (acts_raising world facts store (unwrap_or old.jobs table) (drop i acts)) ≡ whole) →
+    whole ≡ Err text
+step_fails world facts store table acts i act whole old before text low at goes so =
+    let rest : drop i acts ≡ act ∷ drop (i + 1) acts = drop_more acts i act low ∙ ap (λ (a : Act). a ∷ drop (i + 1) acts) (sym at) in
+    let failed = goes facts store (drop (i + 1) acts) (subst (λ (l : List Act). IsLeft facts store l before) rest so.0) in
+    sym so.1 ∙ ap (λ (l : List Act). raised_before old.raised (acts_raising world facts store (unwrap_or old.jobs table) l)) rest
+    ∙ ap (λ (made : Result Raising (List ℕ)). raised_before old.raised (then_raising (λ next. acts_raising world facts store next (drop (i + 1) acts)) made)) failed

@@ -25,7 +25,7 @@ error_first : (text : List ℕ) (ids : List Member) → has_name ids (codes "ret
 error_first text ids none = ap (λ (l : List Member). has_name l (codes "return")) (members_back (effect_member (Err text) ∷ ids)) ∙ none
 
 -- the effect that a reply tells of, and what comes of the plan
-told_by : Result Effect (List ℕ) → Result Effect (List ℕ) → List Member → Option Effect
+abbrev told_by : Result Effect (List ℕ) → Result Effect (List ℕ) → List Member → Option Effect
 told_by made fitting ids = if is_return (Obj (effect_member fitting ∷ ids)) then result_ok made else None
 
 told_by_error : (made : Result Effect (List ℕ)) (text : List ℕ) (ids : List Member) → has_name ids (codes "return") ≡ false → told_by made (Err text) ids ≡ None

@@ -9,7 +9,7 @@ ghost use Rattle.qm_jobs.specs.Jobs.{Job};
 ghost use Rattle.qm_plan.specs.Applying.{enabled_by};
 ghost use Rattle.qm_plan.specs.Stores.{Contents};
 ghost use Rattle.qm_core.specs.Carried.{state_in};
-ghost use Rattle.qm_core.specs.Effects.{AreKnown, effect_of};
+ghost use Rattle.qm_core.specs.Effects.{AreKnown, State, effect_of};
 ghost use Rattle.qm_core.specs.Leaving.{IsLeftBy};
 ghost use Rattle.qm_core.specs.Judged.{told, told_verdict};
 ghost use Rattle.qm_core.specs.Planned.{command_by, command_for, enables_out_of_band as enables_out_of_band_by, mode_by, plan_for, planned_for};
@@ -108,6 +108,7 @@ fn refused_outcome(
     ensures no_id { IfOk result (λ outcome. has_name outcome.members (codes "id") ≡ false) }
     ensures effect { (store : Contents) (table : List Job) →
         IfOk result (λ outcome. IsLeftBy store table None outcome) }
+    ensures known { IfOk result (λ outcome. AreKnown world.now outcome.raised) }
 {
     Ok(unchanged(alloc, refused(alloc, world, input, refusal)?))
 }
@@ -152,11 +153,11 @@ fn outcome(
     requires known { IsKnown setting.now (told_verdict verdict.now) }
     requires planned { let command = command_by (told_verdict verdict.now) in
         plan.now ≡ option_map (plan_for setting.now request.now) command }
-    ensures value { let state = record { store = store.now; table = jobs.now } in
+    ensures value { let state : State = record { store = store.now; table = jobs.now } in
         IfOk result (λ outcome. outcome.members
         ≡ outcome_of setting.now state request.now (told_verdict verdict.now) ∷ []) }
     ensures no_id { IfOk result (λ outcome. has_name outcome.members (codes "id") ≡ false) }
-    ensures effect { let state = record { store = store.now; table = jobs.now } in
+    ensures effect { let state : State = record { store = store.now; table = jobs.now } in
         let effect = verdict_effect setting.now state request.now (told_verdict verdict.now) in
         IfOk result (λ outcome. IsLeftBy store.now jobs.now effect outcome) }
     ensures known { IfOk result (λ outcome. AreKnown setting.now outcome.raised) }
@@ -233,11 +234,11 @@ fn judged_message(
     requires known { IfSome command (λ c. c < length setting.now.schema.commands) }
     requires planned { plan.now ≡ planned_for setting.now request.now }
     ensures value { let verdict = verdict_of setting.now request.now.mode request.now.input in
-        let state = record { store = store.now; table = jobs.now } in
+        let state : State = record { store = store.now; table = jobs.now } in
         IfOk result (λ message. message.members ≡ outcome_of setting.now state request.now verdict ∷ []) }
     ensures no_id { IfOk result (λ message. has_name message.members (codes "id") ≡ false) }
     ensures effect { let verdict = verdict_of setting.now request.now.mode request.now.input in
-        let state = record { store = store.now; table = jobs.now } in
+        let state : State = record { store = store.now; table = jobs.now } in
         let effect = verdict_effect setting.now state request.now verdict in
         IfOk result (λ message. IsLeftBy store.now jobs.now effect message) }
     ensures known { IfOk result (λ message. AreKnown setting.now message.raised) }
@@ -264,10 +265,10 @@ pub(crate) fn replied(
     requires planned { plan.now ≡ planned_for setting.now request.now }
     ensures value { IfOk result (λ reply. reply.value
         ≡ reply_to setting.now (record { store = store.now; table = jobs.now }) request.now) }
-    ensures state { let state = record { store = store.now; table = jobs.now } in
+    ensures state { let state : State = record { store = store.now; table = jobs.now } in
         IfOk result (λ reply. state_in store.now jobs.now reply.changes reply.jobs
         ≡ left_by state (effect_by setting.now state plan.now (reply_to setting.now state request.now))) }
-    ensures raised { let state = record { store = store.now; table = jobs.now } in
+    ensures raised { let state : State = record { store = store.now; table = jobs.now } in
         IfOk result (λ reply. reply.raised
         ≡ raised_by (effect_by setting.now state plan.now (reply_to setting.now state request.now))) }
     ensures known { IfOk result (λ reply. AreKnown setting.now reply.raised) }
