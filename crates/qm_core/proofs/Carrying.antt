@@ -1,8 +1,12 @@
 -- A plan that is carried out.
-use Rattle.std.proofs.Common.{◌≡◌, List, [], Result, Ok, Err, ap, sym, ◌∙◌}
+use Rattle.std.proofs.Common.{◌≡◌, List, [], unwrap_or, Result, Ok, Err, ap, sym, subst, ◌∙◌}
 use Rattle.std.specs.List.{filter_map}
 use Rattle.qm_plan.specs.{Applying.Outcome, Applying.acts_of, Applying.applied_of, Applying.job_act_of, Applying.outcome_from, Applying.outcome_in, Applying.raised_of as event_of, Stores.Contents, Stores.committed}
+use Rattle.qm_json.specs.declared.value.Json.{Json}
+use Rattle.qm_jobs.specs.Jobs.{Job}
 use Rattle.qm_plan.specs.declared.{applied.Applied.Applied, applied.ApplyFault.ApplyFault, events.Raised.Raised, facts.Facts.Facts, recipes.Act.Act, recipes.Plan.Plan}
+use Rattle.qm_core.specs.{Carried.IsLeft, Carried.effect_in, Carried.left_events, Carried.left_jobs, Carried.raising_in, Effects.effect_with, Effects.facts_of, Effects.return_of, JobActs.acts_raising, declared.world.World.World}
+use Rattle.qm_core.specs.declared.job_acts.{Left.Left, Raising.Raising as HeldRaising}
 
 abbrev store_in : Contents → Result Outcome ApplyFault → Contents
 store_in store (Ok o) = o.store

@@ -170,7 +170,7 @@ fn fits_return(world: &World, command: u32, value: &Json) -> bool
 }
 
 /// Lets an effect be where its events and its return fit their types.
-#[tactic(auto, using(crate::proofs::Fitting::return_unfit, crate::proofs::Fitting::fit_known))]
+#[tactic(auto, using(crate::proofs::Fitting::return_unfit))]
 fn fitted(
     alloc: Global,
     world: &World,

@@ -301,7 +301,6 @@ fn next_job_act(
 }
 
 /// Does one act, which is the first of those that are left.
-#[tactic(auto, using(crate::proofs::JobActs::raise_done, crate::proofs::JobActs::start_done, crate::proofs::JobActs::ask_done, crate::proofs::JobActs::start_fails, crate::proofs::JobActs::ask_fails))]
 fn step(
     alloc: Global,
     world: &World,

@@ -4,7 +4,7 @@ use Rattle.qm_core.proofs.job_acts.acts_raising.Goals as goal
 
 pub returns-in_err-step-clause-err : goal.returns-in_err-step-clause-err
 returns-in_err-step-clause-err c =
-    if_fault c.from_residual.result c.in_err-step.field-0 (search rules) (λ text goes facts store is.
+    if_fault c.from_residual.result c.in_err-step.field-0.0 (search rules) (λ text goes facts store is.
     step_fails c.args.world.now facts store c.args.jobs.now c.args.acts.now c.loop-act.act-index c.act-item.result _ c.loop-act.raising c.loop-act.left text
     c.loop-act-test.true c.act-item.is goes (c.loop-act.invariant facts store is)) c.in_err-step.ensures.err
 
