@@ -134,9 +134,11 @@ pub step_on : (world : World) (facts : Facts) (store : Contents) (table : List J
     IsLeft facts store (drop (i + 1) acts) after × (raised_before new.raised (acts_raising world facts store (unwrap_or new.jobs table) (drop (i + 1) acts)) ≡ whole)
 step_on world facts store table acts i act whole old new before after low at goes so =
     let rest : drop i acts ≡ act ∷ drop (i + 1) acts = drop_more acts i act low ∙ ap (λ (a : Act). a ∷ drop (i + 1) acts) (sym at) in
-    let done = goes facts store (drop (i + 1) acts) (subst (λ (l : List Act). IsLeft facts store l before) rest so.0) in
-    (done.rest, act_done world facts store table act (drop (i + 1) acts) old new done.raising
-    ∙ ap (λ (l : List Act). raised_before old.raised (acts_raising world facts store (unwrap_or old.jobs table) l)) (sym rest) ∙ so.1)
+    let done = goes facts store (drop (i + 1) acts) (subst (λ (l : List Act). IsLeft facts store l before) rest so.0) in (
+      done.rest,
+      act_done world facts store table act (drop (i + 1) acts) old new done.raising
+          ∙ ap (λ (l : List Act). raised_before old.raised (acts_raising world facts store (unwrap_or old.jobs table) l)) (sym rest) ∙ so.1,
+    )
 
 -- it fails
 pub step_fails : (world : World) (facts : Facts) (store : Contents) (table : List Job) (acts : List Act) (i : ℕ) (act : Act) (whole : Result Raising (List ℕ)) (old : HeldRaising) (before : Left) (text : List ℕ) →

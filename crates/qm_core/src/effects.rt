@@ -18,7 +18,9 @@ use qm_admit::{Verdict, admit_event, admit_return};
 use qm_base::{NoMemory, Text};
 use qm_jobs::Jobs;
 use qm_json::Json;
-use qm_plan::{Applied, ApplyFault, Plan, Raised, RaisedList, Store, StoreChangeList, Template, apply};
+use qm_plan::{
+    Applied, ApplyFault, Plan, Raised, RaisedList, Store, StoreChangeList, Template, apply,
+};
 use std::alloc::Global;
 
 /// What comes of a command that does not fail.
@@ -143,7 +145,10 @@ fn is_fit(world: &World, raised: &Raised) -> bool
     ensures { result ≡ is_fit world.now raised.now }
 {
     raised.event < world.schema.events()
-        && matches!(admit_event(&world.schema, raised.event, &raised.payload), Verdict::Yes)
+        && matches!(
+            admit_event(&world.schema, raised.event, &raised.payload),
+            Verdict::Yes
+        )
 }
 
 /// The first event whose data does not fit its type.
@@ -171,12 +176,7 @@ fn fits_return(world: &World, command: u32, value: &Json) -> bool
 
 /// Lets an effect be where its events and its return fit their types.
 #[tactic(auto, using(crate::proofs::Fitting::return_unfit))]
-fn fitted(
-    alloc: Global,
-    world: &World,
-    command: u32,
-    effect: Effect,
-) -> Result<Effect, Failing>
+fn fitted(alloc: Global, world: &World, command: u32, effect: Effect) -> Result<Effect, Failing>
     requires id { command < length world.now.schema.commands }
     ensures ok { IfOk result (λ new. (store : Contents) (table : List Job) →
         fitted world.now command (effect_in store table effect) ≡ Ok (effect_in store table new)) }

@@ -35,7 +35,11 @@ fn timestamp(alloc: Global, moment: u64) -> Result<Json, NoMemory>
 {
     let mut members = Members::new(alloc);
     members.add(alloc, b"seconds", Json::Int((moment / 1_000_000) as i128))?;
-    members.add(alloc, b"microseconds", Json::Int((moment % 1_000_000) as i128))?;
+    members.add(
+        alloc,
+        b"microseconds",
+        Json::Int((moment % 1_000_000) as i128),
+    )?;
     Ok(members.into_json())
 }
 

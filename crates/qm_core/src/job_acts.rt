@@ -158,8 +158,10 @@ fn keep(
     changes: &[Change],
     raising: &mut Raising,
 ) -> Result<(), NoMemory>
-    ensures { OnOk result (raising.new ≡ record { jobs = Some jobs;
-        raised = raising.old.raised ++ changes_raised world.now changes.now }) }
+    ensures { OnOk result (raising.new ≡ record {
+      jobs = Some jobs;
+      raised = raising.old.raised ++ changes_raised world.now changes.now;
+    }) }
 {
     raising.jobs = Some(jobs);
     tell_changes(alloc, world, changes, &mut raising.raised)

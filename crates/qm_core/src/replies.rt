@@ -278,9 +278,7 @@ pub(crate) fn replied(
         changes,
         jobs,
         raised,
-    } = judged_message(
-        alloc, setting, store, jobs, request, command, plan,
-    )?;
+    } = judged_message(alloc, setting, store, jobs, request, command, plan)?;
     let value = with_id(alloc, members, &request.input)?;
     Ok(Reply {
         value,
