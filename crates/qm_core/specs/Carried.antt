@@ -1,5 +1,5 @@
 -- Effects as the code holds them. This serves private functions.
-use Rattle.std.specs.Prelude.{◌≡◌, ℕ, List, [], ◌∷◌, drop, unwrap_or, Option, Result, Ok}
+use Rattle.std.specs.Prelude.{◌≡◌, ℕ, List, [], drop, unwrap_or, Option, Result, Ok}
 use Rattle.std.specs.List.{filter_map}
 use Rattle.std.specs.Vec.Iter.{into_iter_items}
 use Rattle.qm_jobs.specs.Jobs.{Job}

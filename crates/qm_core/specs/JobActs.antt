@@ -1,5 +1,5 @@
 -- What a plan's acts raise, and what they do to jobs (this project's own rule).
-use Rattle.std.specs.Prelude.{ℕ, Bool, List, [], ◌∷◌, ◌++◌, codes, map, option_map, unwrap_or, Result, Ok, Err}
+use Rattle.std.specs.Prelude.{ℕ, Bool, List, [], ◌∷◌, ◌++◌, codes, map, unwrap_or, Result, Ok, Err}
 use Rattle.std.specs.Option.{option_map_or}
 use Rattle.qm_json.specs.declared.value.Json.{Json, TheVariants.Str, TheVariants.Obj}
 use Rattle.qapi_types.specs.Lookups.{place_of, event_names}
