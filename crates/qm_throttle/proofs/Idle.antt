@@ -1,8 +1,8 @@
 -- A tick at which no window ends.
-use Rattle.std.proofs.Common.{◌≡◌, ℕ, nat_le, min, Bool, true, false, cond, List, [], ◌∷◌, ◌++◌, map, Option, Some, None, refl, ap, sym, ◌∙◌, arith}
+use Rattle.std.proofs.Common.{◌≡◌, ℕ, nat_le, Bool, false, cond, List, [], ◌∷◌, ◌++◌, Option, Some, None, refl, ap, sym, ◌∙◌, arith}
 use Rattle.std.specs.{List.flat_map, Option.option_to_list}
 use Rattle.std.proofs.lemmas.Bool.Decides.{nat_tests}
-use Rattle.qm_throttle.specs.{Over.comes_by, Steps.Throttling, Steps.Steps, Steps.ticked, Steps.sent_at, Steps.opens_again, Windows.Tick, Windows.due_in, Windows.least, Windows.lesser}
+use Rattle.qm_throttle.specs.{Over.comes_by, Steps.Throttling, Steps.Steps, Steps.ticked, Steps.sent_at, Steps.opens_again, Windows.Tick, Windows.due_in, Windows.lesser}
 use Rattle.qm_throttle.specs.{Keys.Key, declared.window.Window.Window}
 use Rattle.qm_throttle.proofs.Calls.{steps_from}
 

@@ -35,7 +35,7 @@ pub record IsRaisedFrom (old : Throttling) (moment : ℕ) (all : List Raised) (s
   pub rest : (events : List Sent) (new : Throttling) → StepsOver shown (raises shown.periods moment others) events new → StepsOver old (raises old.periods moment all) (sent ++ events) new
 
 pub none_raised : (old : Throttling) (moment : ℕ) (all : List Raised) → All (λ r. r.event < length old.periods) all → IsRaisedFrom old moment all old all []
-none_raised old moment all within = record { within = within; periods = refl; rest = λ events new over. over; }
+none_raised old moment all within = record { within = within; periods = refl; rest = λ events new over. over }
 
 pub one_raised : (old shown next : Throttling) (moment : ℕ) (all others more : List Raised) (raised : Raised) (sent events after : List Sent) → IsRaisedFrom old moment all shown others sent →
     others ≡ raised ∷ more → Steps shown (raise_of shown.periods raised moment) events next → after ≡ sent ++ events → IsRaisedFrom old moment all next more after

@@ -1,4 +1,4 @@
-use Rattle.std.proofs.Common.{◌≡◌, ◌<◌, ◌∷◌, length, ap, sym, ◌∙◌, subst, arith}
+use Rattle.std.proofs.Common.{◌<◌, length, ap, sym, ◌∙◌, subst, arith}
 use Rattle.std.specs.{List.All, Option.option_to_list, Vec.Iter.into_iter_items}
 use Rattle.std.proofs.lemmas.List.{nil_from_length, Elements.All-head}
 use Rattle.qm_plan.specs.declared.events.Raised.{Raised}
