@@ -15,7 +15,7 @@ use Rattle.qm_bind.specs.declared.binding.Binding.{Binding}
 use Rattle.qm_bind.specs.declared.fault.{BindFault.BindFault, BindRule.BindRule}
 use Rattle.qm_bind.specs.declared.fault.BindRule.TheVariants as rule
 use Rattle.qm_bind.specs.{Bindings.bind_of, Bindings.binding_from, Bindings.bound_as, Bindings.bound_of, Bindings.first_cell, Bindings.no_memory, Bindings.unless}
-use Rattle.qm_bind.specs.{Faults.command_fault, Faults.command_named, Faults.commands_fault, Faults.events_fault, Faults.fault, Faults.file_fault, Faults.later_fault, Faults.member_names, Faults.recipe_fault, Faults.scope_of, Faults.tally_fault}
+use Rattle.qm_bind.specs.{Faults.command_fault, Faults.command_named, Faults.commands_fault, Periods.events_fault, Departures.fault, Faults.file_fault, Faults.later_fault, Faults.member_names, Faults.recipe_fault, Faults.scope_of, Faults.tally_fault}
 use Rattle.qm_bind.specs.{Parts.FileParts, Parts.names_of, Parts.parts_of, Recipes.recipe_of}
 use Rattle.qm_bind.proofs.CleanParts.{cells-distinct}
 

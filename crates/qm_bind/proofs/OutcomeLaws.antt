@@ -7,7 +7,7 @@ use Rattle.qm_json.specs.declared.value.Json.{Json}
 use Rattle.qm_read.specs.{Faults.reading_of, declared.fault.JsonFault.JsonFault}
 use Rattle.qm_bind.specs.declared.binding.Binding.{Binding}
 use Rattle.qm_bind.specs.declared.fault.{BindFault.BindFault, BindRule.TheVariants.BadRecipe, BindRule.TheVariants.NotJson, BindRule.TheVariants.Twice}
-use Rattle.qm_bind.specs.{Bindings.bind_of, Bindings.binding_from, Bindings.binding_of, Bindings.bound_as, Bindings.bound_of, Bindings.unless, Faults.commands_fault, Faults.events_fault, Faults.fault, Faults.file_fault, Faults.later_fault, Faults.member_names, Parts.FileParts, Parts.names_of, Parts.parts_of}
+use Rattle.qm_bind.specs.{Bindings.bind_of, Bindings.binding_from, Bindings.binding_of, Bindings.bound_as, Bindings.bound_of, Bindings.unless, Faults.commands_fault, Periods.events_fault, Departures.fault, Faults.file_fault, Faults.later_fault, Faults.member_names, Parts.FileParts, Parts.names_of, Parts.parts_of}
 
 pub bad-commands : (p : Parts) (file : FileParts) (b : BindFault) → Some b ≡ commands_fault p file file.commands → Err b ≡ unless (later_fault p file) (bound_of p file)
 bad-commands p file b h = ap (λ (o : Option BindFault). unless (option_or o (events_fault file.events)) (bound_of p file)) h

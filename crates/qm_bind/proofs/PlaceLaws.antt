@@ -9,7 +9,7 @@ use Rattle.qapi_types.specs.declared.parts.{CommandDef.CommandDef, Parts.Parts}
 use Rattle.qapi_types.specs.{Choices.AreApart, Choices.times, Lookups.command_names, Lookups.place_of}
 use Rattle.qm_plan.specs.declared.recipes.Recipe.{Recipe}
 use Rattle.qm_bind.specs.declared.fault.{BindFault.BindFault, BindRule.TheVariants.BadRecipe, BindRule.TheVariants.UnknownCommand}
-use Rattle.qm_bind.specs.{Bindings.recipe_for, Bindings.recipes_for, Faults.command_fault, Faults.commands_fault, Faults.fault, Faults.member_names, Faults.own_command, Faults.recipe_fault, Faults.scope_of, Parts.FileParts}
+use Rattle.qm_bind.specs.{Bindings.recipe_for, Bindings.recipes_for, Faults.command_fault, Faults.commands_fault, Departures.fault, Faults.member_names, Faults.own_command, Faults.recipe_fault, Faults.scope_of, Parts.FileParts}
 use Rattle.qm_bind.specs.{Recipes.plain_recipe, Recipes.recipe_of, Standing.standing_recipe, Walks.put_at, Walks.with_recipe}
 use Rattle.qm_bind.proofs.NameLaws.{from}
 

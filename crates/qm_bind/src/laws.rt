@@ -7,7 +7,7 @@ ghost use Rattle.qm_read.specs.declared.fault.JsonFault.TheVariants as text_rule
 ghost use Rattle.qm_bind.specs.declared.binding.Binding.{Binding};
 ghost use Rattle.qm_bind.specs.declared.fault.BindRule.TheVariants as rule;
 ghost use Rattle.qm_bind.specs.Bindings.{bind_of};
-ghost use Rattle.qm_bind.specs.Faults.{fault};
+ghost use Rattle.qm_bind.specs.Departures.{fault};
 ghost use Rattle.qm_bind.specs.Goodness.{IsGoodBinding};
 ghost use Rattle.qm_bind.specs.Arguments.{MayHave, may_have};
 
