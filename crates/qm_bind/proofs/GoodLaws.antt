@@ -93,6 +93,8 @@ scopes-are p file c = λ j. record {
   is_cell = is_named (sym (names-are file.cells) j);
   is_tally = is_named (names_of file.tallies);
   is_argument = (scope_of p file c).is_argument;
+  is_id = (scope_of p file c).is_id;
+  events = (scope_of p file c).events;
 }
 
 recipe-good : (p : Parts) (file : FileParts) (members : List Member) (c : CommandDef) → list_all is_clean_member members ≡ true → IsCleanFor p (bound_of p file) c (recipe_for p file members c)
