@@ -4,6 +4,7 @@ pub mod CleanParts
 pub mod Eaches
 pub mod FileRecipes
 pub mod FileTemplates
+pub mod FirstLaws
 pub mod GoodLaws
 pub mod Layers
 pub mod MemberLaws
