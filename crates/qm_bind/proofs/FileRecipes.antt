@@ -38,11 +38,11 @@ pub text-utf8 : (v : Json) (text : List ℕ) → is_clean v ≡ true → text_of
 text-utf8 v text h e = sym (is_clean-Str text) ∙ ap is_clean (sym (text-is v text e)) ∙ h
 
 -- a name that is known, of a string
-record IsKnown (is_known : List ℕ → Bool) (v : Json) (name : List ℕ) : Type 0 where
+pub record IsKnown (is_known : List ℕ → Bool) (v : Json) (name : List ℕ) : Type 0 where
   pub text : text_of v ≡ Some name
   pub known : is_known name ≡ true
 
-is-known : (is_known : List ℕ → Bool) (v : Json) (name : List ℕ) → known_name is_known v ≡ Some name → IsKnown is_known v name
+pub is-known : (is_known : List ℕ → Bool) (v : Json) (name : List ℕ) → known_name is_known v ≡ Some name → IsKnown is_known v name
 is-known is_known v name h = by_text (text_of v) refl h
   where
     by_known : (t : List ℕ) → text_of v ≡ Some t → (b : Bool) → is_known t ≡ b → cond b (Some t) None ≡ Some name → IsKnown is_known v name

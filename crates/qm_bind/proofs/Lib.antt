@@ -12,6 +12,7 @@ pub mod NameLaws
 pub mod NamedLaws
 pub mod OutcomeLaws
 pub mod PairLaws
+pub mod PeriodLaws
 pub mod PlaceLaws
 pub mod RecipeLaws
 pub mod StandingLaws

@@ -34,5 +34,5 @@ pub use fault::{BindFault, BindRule};
 pub use goodness::binding_good;
 pub use laws::{
     each_argument_is_a_member, each_binding_has_distinct_names, each_binding_is_good,
-    memory_is_no_fault,
+    each_good_binding_has_own_periods, memory_is_no_fault,
 };
