@@ -7,13 +7,13 @@ use Rattle.qm_core.specs.declared.{entries.Entry.Entry, monitor.Limits.Limits, w
 abbrev pub past_of : List Entry → List Entry
 past_of journal = reverse journal
 
-abbrev pub AllFollow : List Entry → Type 0
-AllFollow [] = Unit {0}
-AllFollow (e ∷ past) = MayFollow past e × AllFollow past
+abbrev pub AllFollow : World → List Entry → Type 0
+AllFollow world [] = Unit {0}
+AllFollow world (e ∷ past) = MayFollow world past e × AllFollow world past
 
 -- each entry may come after those before it, and each reply is the answer of the world
 pub record IsLegal (world : World) (journal : List Entry) : Type 0 where
-  pub ordered : AllFollow (past_of journal)
+  pub ordered : AllFollow world (past_of journal)
   pub answered : AllAnswer world (past_of journal)
 
 -- so many entries and bytes are within the limits, with what is kept for the drop of each open session:

@@ -2,7 +2,7 @@
 use Rattle.std.specs.Prelude.{◌≡◌, ℕ, ◌+◌, ◌^◌, ◌<◌, ◌==◌, nat_le, max, Bool, false, if◌then◌else◌, ◌&&◌, ◌||◌, List, [], ◌∷◌, ◌++◌, length, reverse, Option, Some, None, is_some, is_none, refl}
 use Rattle.std.specs.{Coded.Coded, Coded.code_by, Coded.coded×, Coded.coded_list, Coded.coded_ℕ, Option.option_or}
 use Rattle.qm_caps.specs.{Lanes.is_in_band, Modes.bound_of}
-use Rattle.qm_core.specs.{Inputs.IsCleanInput, Inputs.lane_of, Legal.past_of, Legal.is_within, Answers.reply_of, Order.cause_holds, Planned.planned_of, State.store_of}
+use Rattle.qm_core.specs.{Inputs.IsCleanInput, Inputs.lane_of, Legal.past_of, Legal.is_within, Answers.reply_of, Order.cause_holds, Order.is_due, Planned.planned_of, State.state_of}
 use Rattle.qm_core.specs.Standing.{sessions_of, was_opened, is_dropped, is_ended, open_count_of, admitted_of, in_flight_of, mode_of, running_of, open_out_of_band_of, is_stopped, starting_of, named_of, last_moment_of}
 use Rattle.qm_core.specs.{Texts.text_of, Texts.entry_text_of, Transcript.untaken_of, declared.TheConstants.MOST_SESSIONS}
 use Rattle.qm_core.specs.declared.entries.{Cause.Cause, Cause.TheVariants.Ended, Entry.Entry, StepFault.StepFault}
@@ -19,6 +19,7 @@ pub data Step : Type 0 where
   Start : Step
   Finish : ℕ → ℕ → ℕ → Step
   FinishOob : ℕ → ℕ → ℕ → Step
+  Tick : ℕ → Step
   Take : ℕ → Step
   End : ℕ → Step
   Drop : ℕ → Cause → Step
@@ -28,6 +29,7 @@ abbrev pub IsCleanStep : Step → Type 0
 IsCleanStep (Admit s input) = IsCleanInput input
 IsCleanStep (Finish s k moment) = moment < 2 ^ 64
 IsCleanStep (FinishOob s k moment) = moment < 2 ^ 64
+IsCleanStep (Tick moment) = moment < 2 ^ 64
 IsCleanStep _ = Unit {0}
 
 -- where no request can be started there is no such entry, and the step is refused
@@ -35,10 +37,14 @@ abbrev pub start_entry : Option RequestName → Entry
 start_entry None = entry.Start 0 0
 start_entry (Some q) = entry.Start q.session q.number
 
+-- the moment, or the greatest before it
+abbrev pub at_moment : ℕ → List Entry → ℕ
+at_moment moment past = max moment (last_moment_of past)
+
 -- the entry of a request's plan and reply, at a moment that is not before any other
 abbrev pub answer_entry : World → List Entry → (ℕ → ℕ → Option Plan → Json → ℕ → Entry) → Option Request → ℕ → ℕ → ℕ → Entry
 answer_entry world past done request s k moment =
-    done s k (planned_of world request) (reply_of world (store_of world past) request) (max moment (last_moment_of past))
+    done s k (planned_of world request) (reply_of world (state_of world past) request) (at_moment moment past)
 
 -- the entry of a step that is not refused
 abbrev pub entry_of : World → List Entry → Step → Entry
@@ -47,7 +53,8 @@ entry_of world past (Admit s input) = entry.Admit s (admitted_of s past + 1) (la
 entry_of world past Start = start_entry (named_of (starting_of past))
 entry_of world past (Finish s k moment) = answer_entry world past entry.Done (running_of past) s k moment
 entry_of world past (FinishOob s k moment) = answer_entry world past entry.OobDone (open_out_of_band_of s past) s k moment
-entry_of world past (Take s) = entry.Take s (untaken_of s past)
+entry_of world past (Tick moment) = entry.Tick (at_moment moment past)
+entry_of world past (Take s) = entry.Take s (untaken_of world s past)
 entry_of world past (End s) = entry.Eof s
 entry_of world past (Drop s cause) = entry.Drop s cause
 
@@ -108,11 +115,15 @@ refusal_of world limits past (Finish s k moment) =
     if is_running s k past then full_refusal limits past (entry_of world past (Finish s k moment)) else Some NotRunning
 refusal_of world limits past (FinishOob s k moment) = session_refusal s past
     (if is_open_out_of_band s k past then full_refusal limits past (entry_of world past (FinishOob s k moment)) else Some NotOpen)
+refusal_of world limits past (Tick moment) =
+    if is_stopped past then Some Stopping
+    else if is_due world past (at_moment moment past) then full_refusal limits past (entry_of world past (Tick moment))
+    else Some Nothing
 refusal_of world limits past (Take s) = session_refusal s past
-    (if length (untaken_of s past) == 0 then Some Nothing else full_refusal limits past (entry_of world past (Take s)))
+    (if length (untaken_of world s past) == 0 then Some Nothing else full_refusal limits past (entry_of world past (Take s)))
 refusal_of world limits past (End s) = session_refusal s past
     (if is_ended s past then Some InputEnded else full_refusal limits past (entry_of world past (End s)))
-refusal_of world limits past (Drop s cause) = session_refusal s past (if cause_holds past s cause then None else Some (cause_fault cause))
+refusal_of world limits past (Drop s cause) = session_refusal s past (if cause_holds world past s cause then None else Some (cause_fault cause))
 
 -- what contracts see of a monitor
 pub record View : Type 0 where

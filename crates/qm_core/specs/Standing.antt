@@ -6,7 +6,7 @@ use Rattle.qm_json.specs.declared.value.Json.{Json}
 use Rattle.qm_caps.specs.{Lanes.is_in_band, Modes.is_negotiating, declared.mode.Mode.Mode, declared.mode.Mode.TheVariants.Negotiating}
 use Rattle.qm_queue.specs.{Turns.turn_of as first_turn, declared.turns.TurnItem.TurnItem}
 use Rattle.qm_core.specs.{Inputs.command_of, Planned.mode_by, Replies.is_return, declared.entries.Entry.Entry}
-use Rattle.qm_core.specs.declared.entries.Entry.TheVariants.{Open, Admit, Start, Done, OobDone, Eof, Drop}
+use Rattle.qm_core.specs.declared.entries.Entry.TheVariants.{Open, Admit, Start, Done, OobDone, Tick, Eof, Drop}
 use Rattle.qm_core.specs.declared.{inputs.Input.Input, requests.Request.Request, requests.RequestName.RequestName}
 
 -- the sessions that were opened, in order
@@ -110,6 +110,7 @@ abbrev pub last_moment_of : List Entry → ℕ
 last_moment_of [] = 0
 last_moment_of (Done s k plan reply moment ∷ past) = max moment (last_moment_of past)
 last_moment_of (OobDone s k plan reply moment ∷ past) = max moment (last_moment_of past)
+last_moment_of (Tick moment ∷ past) = max moment (last_moment_of past)
 last_moment_of (e ∷ past) = last_moment_of past
 
 -- the number of the entry that last started a request of the session

@@ -3,7 +3,7 @@ use Rattle.std.specs.Prelude.{ℕ, ◌+◌, List, [], ◌∷◌, ◌++◌, codes
 use Rattle.std.specs.{Fmt.decimal, List.flat_map, Str.bytes_eq}
 use Rattle.qm_json.specs.{Printing.printed, declared.value.Json.Json}
 use Rattle.qm_caps.specs.declared.mode.Lane.{Lane, TheVariants.InBand, TheVariants.Oob}
-use Rattle.qm_core.specs.declared.entries.{Cause.Cause, Entry.Entry, Entry.TheVariants.Open, Entry.TheVariants.Admit, Entry.TheVariants.Start, Entry.TheVariants.Done, Entry.TheVariants.OobDone, Entry.TheVariants.Take, Entry.TheVariants.Eof, Entry.TheVariants.Drop}
+use Rattle.qm_core.specs.declared.entries.{Cause.Cause, Entry.Entry, Entry.TheVariants.Open, Entry.TheVariants.Admit, Entry.TheVariants.Start, Entry.TheVariants.Done, Entry.TheVariants.OobDone, Entry.TheVariants.Tick, Entry.TheVariants.Take, Entry.TheVariants.Eof, Entry.TheVariants.Drop}
 use Rattle.qm_core.specs.declared.entries.Cause.TheVariants as cause
 use Rattle.qm_core.specs.declared.inputs.{BadInput.BadInput, FrameWord.FrameWord, FrameWord.TheVariants.LexError, FrameWord.TheVariants.Unbalanced, FrameWord.TheVariants.TooDeep, FrameWord.TheVariants.TooLong}
 use Rattle.qm_core.specs.declared.inputs.BadInput.TheVariants as bad
@@ -71,6 +71,7 @@ entry_body_of (Admit s k lane input) = codes " admit " ++ request_text_of s k ++
 entry_body_of (Start s k) = codes " start " ++ request_text_of s k ++ codes "\n"
 entry_body_of (Done s k plan reply moment) = codes " done " ++ answer_text_of s k reply moment
 entry_body_of (OobDone s k plan reply moment) = codes " oob-done " ++ answer_text_of s k reply moment
+entry_body_of (Tick moment) = codes " tick @" ++ decimal moment ++ codes "\n"
 entry_body_of (Take s lines) = codes " take " ++ decimal s ++ codes " " ++ decimal (length lines) ++ codes "\n" ++ flat_map taken_text_of lines
 entry_body_of (Eof s) = codes " eof " ++ decimal s ++ codes "\n"
 entry_body_of (Drop s cause) = codes " drop " ++ decimal s ++ codes " " ++ cause_word_of cause ++ codes "\n"

@@ -81,6 +81,11 @@ pub enum Entry {
         /// When, in microseconds.
         moment: u64,
     },
+    /// The clock ticked.
+    Tick {
+        /// When, in microseconds.
+        moment: u64,
+    },
     /// Lines were handed out to the client.
     Take {
         /// Its session.
@@ -120,7 +125,7 @@ pub enum StepFault {
     /// As many requests of the session wait or run as its mode allows.
     #[error("too many requests are in flight")]
     Busy,
-    /// There is nothing to start or to take.
+    /// There is nothing to start or to take, no window ends at a tick and no job works.
     #[error("there is nothing to do")]
     Nothing,
     /// This request is not the running one.
