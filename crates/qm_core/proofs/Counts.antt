@@ -5,8 +5,9 @@ use Rattle.std.proofs.lemmas.Bool.{cases_eq}
 use Rattle.std.proofs.lemmas.List.Folds.{list_any-append}
 use Rattle.std.proofs.lemmas.List.Sums.{count_by-le-length}
 use Rattle.qm_core.specs.declared.entries.{Cause.Cause, Entry.Entry, Entry.TheVariants.Open, Entry.TheVariants.Drop}
-use Rattle.qm_core.specs.{Legal.AllFollow, Sessions.Kept, declared.TheConstants.MOST_SESSIONS}
+use Rattle.qm_core.specs.{Sessions.Kept, declared.TheConstants.MOST_SESSIONS}
 use Rattle.qm_core.specs.Standing.{sessions_of, was_opened, is_dropped, is_open, open_count_of}
+use Rattle.qm_core.proofs.Coming.{AllCome}
 use Rattle.qm_core.proofs.Counting.{unit, count-cons, count-push}
 use Rattle.qm_core.proofs.Numbers.{numbers_from}
 use Rattle.qm_core.proofs.Pasts.{differ, same, open_opened, sessions-are, opened-within, within-opened, past-not-opened, few-sessions}
@@ -35,7 +36,7 @@ count-one-less p q s a (suc n) low high here gone others =
           omega (arith, p_more, q_more, rest, both_here))
     ]
 
-pub counts-open : (past : List Entry) (s : ℕ) → AllFollow past → s ≡ length (sessions_of past) + 1 → open_count_of (Open s ∷ past) ≡ open_count_of past + 1
+pub counts-open : (past : List Entry) (s : ℕ) → AllCome past → s ≡ length (sessions_of past) + 1 → open_count_of (Open s ∷ past) ≡ open_count_of past + 1
 counts-open past s legal next =
     let n = length (sessions_of past) in
     let test : ℕ → Bool = λ t. is_open t (Open s ∷ past) in
@@ -56,7 +57,7 @@ counts-open past s legal next =
       old : (t : ℕ) → was_opened t past ≡ true → is_open t (Open s ∷ past) ≡ is_open t past
       old t h = (let known : was_opened t (Open s ∷ past) ≡ true = list_any-append (λ u. u == t) (sessions_of past) (s ∷ []) ∙ rw h refl in rw (known, h) refl)
 
-pub counts-drop : (past : List Entry) (s : ℕ) (cause : Cause) → AllFollow past → is_open s past ≡ true → open_count_of (Drop s cause ∷ past) + 1 ≡ open_count_of past
+pub counts-drop : (past : List Entry) (s : ℕ) (cause : Cause) → AllCome past → is_open s past ≡ true → open_count_of (Drop s cause ∷ past) + 1 ≡ open_count_of past
 counts-drop past s cause legal opened =
     let n = length (sessions_of past) in
     let bounds = opened-within s past legal (open_opened s past opened) in
@@ -71,5 +72,5 @@ counts-drop past s cause legal opened =
       other : (t : ℕ) → t ≢ s → is_open t (Drop s cause ∷ past) ≡ is_open t past
       other t ne = rw (differ s t (λ e. ne (sym e))) refl
 
-pub few-open : (past : List Entry) → AllFollow past → open_count_of past ≤ MOST_SESSIONS
+pub few-open : (past : List Entry) → AllCome past → open_count_of past ≤ MOST_SESSIONS
 few-open past legal = omega (arith, count_by-le-length (λ s. is_open s past) (sessions_of past), few-sessions past legal)

@@ -3,11 +3,12 @@ use Rattle.std.proofs.Common.{◌≡◌, ℕ, ◌+◌, ◌≤◌, ◌<◌, ◌==
 use Rattle.std.specs.List.{count_by, list_any}
 use Rattle.std.proofs.lemmas.Bool.{or_cases, Decides.nat_tests}
 use Rattle.std.proofs.lemmas.List.{nil_from_length}
-use Rattle.qm_core.specs.declared.entries.Entry.{Entry, TheVariants.Open, TheVariants.Admit, TheVariants.Start, TheVariants.Done, TheVariants.OobDone, TheVariants.Take, TheVariants.Eof, TheVariants.Drop}
+use Rattle.qm_core.specs.declared.entries.Entry.{Entry, TheVariants.Open, TheVariants.Admit, TheVariants.Start, TheVariants.Done, TheVariants.OobDone, TheVariants.Tick, TheVariants.Take, TheVariants.Eof, TheVariants.Drop}
 use Rattle.qm_core.specs.declared.requests.Request.{Request}
-use Rattle.qm_core.specs.{Drained.is_drained, Legal.AllFollow, Order.MayFollow, Requests.admits_request, Requests.replies_to}
+use Rattle.qm_core.specs.{Drained.is_drained, Requests.admits_request, Requests.replies_to}
 use Rattle.qm_core.specs.Standing.{admits, ends, admitted_of, is_dropped, is_ended, is_open, was_opened, in_flight_of, is_of, waiting_of, running_of, open_out_of_band_of}
 use Rattle.qm_core.specs.Transcript.{has_overrun, untaken_of}
+use Rattle.qm_core.proofs.Coming.{AllCome, Comes}
 use Rattle.qm_core.proofs.Counting.{unit, count-cons, count-append}
 use Rattle.qm_core.proofs.Holding.{admitted-grows, admitted-here}
 use Rattle.qm_core.proofs.Journals.{earlier}
@@ -15,13 +16,13 @@ use Rattle.qm_core.proofs.Pasts.{both, equal}
 use Rattle.qm_core.proofs.Replied.{admissions, has_number, is_named, stands, once}
 
 -- the number of a request that was admitted is within the admissions of its session
-pub admitted-number : (s k : ℕ) (past : List Entry) → AllFollow past → list_any (admits_request s k) past ≡ true → (0 < k) × (k ≤ admitted_of s past)
+pub admitted-number : (s k : ℕ) (past : List Entry) → AllCome past → list_any (admits_request s k) past ≡ true → (0 < k) × (k ≤ admitted_of s past)
 admitted-number s k [] legal h = absurd cc
 admitted-number s k (e ∷ past) legal h = elim (or_cases (admits_request s k e) (list_any (admits_request s k) past) h) [
   | inl here ↦ of_entry e legal.0 here
   | inr before ↦ (let low = admitted-number s k past legal.1 before in let more = admitted-grows s e past in (low.0, omega (arith, low.1, more)))
 ] where
-  of_entry : (e : Entry) → MayFollow past e → admits_request s k e ≡ true → (0 < k) × (k ≤ admitted_of s (e ∷ past))
+  of_entry : (e : Entry) → Comes past e → admits_request s k e ≡ true → (0 < k) × (k ≤ admitted_of s (e ∷ past))
   of_entry (Open t) may g = absurd cc
   of_entry (Admit t j lane input) may g =
       (let parts = both (t == s) (j == k) g in
@@ -33,6 +34,7 @@ admitted-number s k (e ∷ past) legal h = elim (or_cases (admits_request s k e)
   of_entry (Start t j) may g = absurd cc
   of_entry (Done t j plan reply moment) may g = absurd cc
   of_entry (OobDone t j plan reply moment) may g = absurd cc
+  of_entry (Tick moment) may g = absurd cc
   of_entry (Take t lines) may g = absurd cc
   of_entry (Eof t) may g = absurd cc
   of_entry (Drop t cause) may g = absurd cc
@@ -47,7 +49,7 @@ still-ended : (s : ℕ) (later past : List Entry) → is_ended s past ≡ true �
 still-ended s [] past h = h
 still-ended s (e ∷ later) past h = or_right (ends s e) _ (still-ended s later past h)
 
-admits-none : (s : ℕ) (e : Entry) (past : List Entry) → MayFollow past e → is_ended s past ≡ true → admits s e ≡ false
+admits-none : (s : ℕ) (e : Entry) (past : List Entry) → Comes past e → is_ended s past ≡ true → admits s e ≡ false
 admits-none s (Open t) past may h = refl
 admits-none s (Admit t k lane input) past may h = either (t == s) refl where
   either : (b : Bool) → (t == s) ≡ b → (t == s) ≡ false
@@ -56,11 +58,12 @@ admits-none s (Admit t k lane input) past may h = either (t == s) refl where
 admits-none s (Start t k) past may h = refl
 admits-none s (Done t k plan reply moment) past may h = refl
 admits-none s (OobDone t k plan reply moment) past may h = refl
+admits-none s (Tick moment) past may h = refl
 admits-none s (Take t lines) past may h = refl
 admits-none s (Eof t) past may h = refl
 admits-none s (Drop t cause) past may h = refl
 
-ended-admits : (s : ℕ) (later past : List Entry) → AllFollow (later ++ past) → is_ended s past ≡ true → admitted_of s (later ++ past) ≡ admitted_of s past
+ended-admits : (s : ℕ) (later past : List Entry) → AllCome (later ++ past) → is_ended s past ≡ true → admitted_of s (later ++ past) ≡ admitted_of s past
 ended-admits s [] past legal h = refl
 ended-admits s (e ∷ later) past legal h =
     let none = admits-none s e (later ++ past) legal.0 (still-ended s later past h) in
@@ -113,7 +116,7 @@ not-named : (s k : ℕ) (request : Option Request) → is_of s request ≡ false
 not-named s k None h = refl
 not-named s k (Some q) h = rw h refl
 
-replied-all : (s k : ℕ) (past : List Entry) → AllFollow past → HasNone s past → count_by (replies_to s k) past ≡ admissions k (admitted_of s past)
+replied-all : (s k : ℕ) (past : List Entry) → AllCome past → HasNone s past → count_by (replies_to s k) past ≡ admissions k (admitted_of s past)
 replied-all s k past legal none =
     let exact = (stands s k past legal).all none.stays in
     let waits : count_by (has_number k) (waiting_of s past) ≡ 0 = ap (λ (l : List Request). count_by (has_number k) l) none.waits in
@@ -127,7 +130,7 @@ is-one k n low high =
     let second : nat_le k n ≡ true = grind (arith, nat_tests) in
     rw (first, second) refl
 
-pub drained-once : (s k : ℕ) (later past : List Entry) → AllFollow (later ++ past) → is_drained s past ≡ true → list_any (admits_request s k) (later ++ past) ≡ true →
+pub drained-once : (s k : ℕ) (later past : List Entry) → AllCome (later ++ past) → is_drained s past ≡ true → list_any (admits_request s k) (later ++ past) ≡ true →
     count_by (replies_to s k) (later ++ past) ≡ 1
 drained-once s k later past legal drained admitted =
     let before = earlier later past legal in

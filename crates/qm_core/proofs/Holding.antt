@@ -3,10 +3,11 @@ use Rattle.std.proofs.Common.{◌≡◌, ℕ, ◌+◌, ◌≤◌, ◌==◌, Bool
 use Rattle.std.specs.List.{filter, find, list_any}
 use Rattle.qm_caps.specs.Lanes.{is_in_band}
 use Rattle.qm_caps.specs.declared.mode.Lane.{Lane, TheVariants.InBand, TheVariants.Oob}
-use Rattle.qm_core.specs.declared.entries.Entry.{Entry, TheVariants.Open, TheVariants.Admit, TheVariants.Start, TheVariants.Done, TheVariants.OobDone, TheVariants.Take, TheVariants.Eof, TheVariants.Drop}
+use Rattle.qm_core.specs.declared.entries.Entry.{Entry, TheVariants.Open, TheVariants.Admit, TheVariants.Start, TheVariants.Done, TheVariants.OobDone, TheVariants.Tick, TheVariants.Take, TheVariants.Eof, TheVariants.Drop}
 use Rattle.qm_core.specs.declared.{inputs.Input.Input, requests.Request.Request}
-use Rattle.qm_core.specs.{Legal.AllFollow, Order.MayFollow, Requests.admits_request}
+use Rattle.qm_core.specs.Requests.{admits_request}
 use Rattle.qm_core.specs.Standing.{admits, admitted_of, mode_of, waiting_of, running_of, open_out_of_band_of}
+use Rattle.qm_core.proofs.Coming.{AllCome, Comes}
 use Rattle.qm_core.proofs.{Counting.count-cons, Pasts.same}
 
 abbrev pub Each : {A : Type 0} → (A → Type 0) → List A → Type 0
@@ -83,6 +84,7 @@ hold P (OobDone t k plan reply moment) past good h = record {
   runs = h.runs;
   opens = λ s q is. opens-less P (t == s) q (open_out_of_band_of s past) (h.opens s q) is;
 }
+hold P (Tick moment) past good h = record { waits = h.waits; runs = h.runs; opens = h.opens }
 hold P (Take t lines) past good h = record { waits = h.waits; runs = h.runs; opens = h.opens }
 hold P (Eof t) past good h = record { waits = h.waits; runs = h.runs; opens = h.opens }
 hold P (Drop t cause) past good h = record {
@@ -128,17 +130,18 @@ admitted-here s k lane input past = count-cons (admits s) (Admit s k lane input)
 abbrev pub IsCounted : List Entry → Lane → Request → Type 0
 IsCounted past lane q = q.number ≤ admitted_of q.session past
 
-counted-good : (e : Entry) (past : List Entry) → MayFollow past e → IsGood (IsCounted (e ∷ past)) past e
+counted-good : (e : Entry) (past : List Entry) → Comes past e → IsGood (IsCounted (e ∷ past)) past e
 counted-good (Open t) past may = tt
 counted-good (Admit t k lane input) past may = (let more = admitted-here t k lane input past in omega (arith, may.next, more))
 counted-good (Start t k) past may = tt
 counted-good (Done t k plan reply moment) past may = tt
 counted-good (OobDone t k plan reply moment) past may = tt
+counted-good (Tick moment) past may = tt
 counted-good (Take t lines) past may = tt
 counted-good (Eof t) past may = tt
 counted-good (Drop t cause) past may = tt
 
-pub counted : (past : List Entry) → AllFollow past → Holding (IsCounted past) past
+pub counted : (past : List Entry) → AllCome past → Holding (IsCounted past) past
 counted [] legal = none-held (IsCounted [])
 counted (e ∷ past) legal =
     hold (IsCounted (e ∷ past)) e past (counted-good e past legal.0)
@@ -159,6 +162,7 @@ admitted-good (Admit t k lane input) past = rw (same t, same k) refl
 admitted-good (Start t k) past = tt
 admitted-good (Done t k plan reply moment) past = tt
 admitted-good (OobDone t k plan reply moment) past = tt
+admitted-good (Tick moment) past = tt
 admitted-good (Take t lines) past = tt
 admitted-good (Eof t) past = tt
 admitted-good (Drop t cause) past = tt

@@ -7,10 +7,11 @@ use Rattle.qm_caps.specs.declared.mode.Lane.{Lane, TheVariants.InBand, TheVarian
 use Rattle.qm_caps.specs.Lanes.{is_in_band}
 use Rattle.qm_plan.specs.declared.recipes.Plan.{Plan}
 use Rattle.qm_json.specs.declared.value.Json.{Json}
-use Rattle.qm_core.specs.declared.entries.Entry.{Entry, TheVariants.Open, TheVariants.Admit, TheVariants.Start, TheVariants.Done, TheVariants.OobDone, TheVariants.Take, TheVariants.Eof, TheVariants.Drop}
+use Rattle.qm_core.specs.declared.entries.Entry.{Entry, TheVariants.Open, TheVariants.Admit, TheVariants.Start, TheVariants.Done, TheVariants.OobDone, TheVariants.Tick, TheVariants.Take, TheVariants.Eof, TheVariants.Drop}
 use Rattle.qm_core.specs.declared.{requests.Request.Request}
-use Rattle.qm_core.specs.{Legal.AllFollow, Order.MayFollow, Order.MayStart, Requests.replies_to}
+use Rattle.qm_core.specs.{Order.MayStart, Requests.replies_to}
 use Rattle.qm_core.specs.Standing.{admits, admitted_of, mode_of, waiting_of, running_of, open_out_of_band_of, named_of}
+use Rattle.qm_core.proofs.Coming.{AllCome, Comes}
 use Rattle.qm_core.proofs.{Counting.unit, Counting.count-cons, Counting.count-append, Journals.earlier}
 use Rattle.qm_core.proofs.Holding.{counted, admitted-grows, admitted-later}
 use Rattle.qm_core.proofs.Pasts.{Begins, begins, begun, both, equal, same, named}
@@ -35,7 +36,7 @@ waits-later : (n : ℕ) (b : Bool) (ws : List Request) (q : Request) → list_al
 waits-later n true ws q all low = list_all-append (is_later n) ws (q ∷ []) ∙ (let here : nat_lt n q.number ≡ true = grind (arith, nat_tests, low refl) in rw (all, here) refl)
 waits-later n false ws q all low = all
 
-pub is-started : (s : ℕ) (past : List Entry) → AllFollow past → IsStarted s past
+pub is-started : (s : ℕ) (past : List Entry) → AllCome past → IsStarted s past
 is-started s [] legal = record { least = refl; runs = λ q h. absurd cc; within = omega arith }
 is-started s (Open t ∷ past) legal =
     (let before = is-started s past legal.1 in let more = admitted-grows s (Open t) past in record { least = before.least; runs = before.runs; within = omega (arith, before.within, more) })
@@ -82,6 +83,7 @@ is-started s (Done t k plan reply moment ∷ past) legal =
     (let before = is-started s past legal.1 in let more = admitted-grows s (Done t k plan reply moment) past in record { least = before.least; runs = λ q h. absurd cc; within = omega (arith, before.within, more) })
 is-started s (OobDone t k plan reply moment ∷ past) legal =
     (let before = is-started s past legal.1 in let more = admitted-grows s (OobDone t k plan reply moment) past in record { least = before.least; runs = before.runs; within = omega (arith, before.within, more) })
+is-started s (Tick moment ∷ past) legal =
 is-started s (Take t lines ∷ past) legal =
     (let before = is-started s past legal.1 in let more = admitted-grows s (Take t lines) past in record { least = before.least; runs = before.runs; within = omega (arith, before.within, more) })
 is-started s (Eof t ∷ past) legal =
@@ -95,7 +97,7 @@ is-started s (Drop t cause ∷ past) legal =
       either false all = all
 
 -- a request that is started is later than the one started before it
-started-higher : (s k : ℕ) (past : List Entry) → MayStart past s k → AllFollow past → last_started_of s past < k
+started-higher : (s k : ℕ) (past : List Entry) → MayStart past s k → AllCome past → last_started_of s past < k
 started-higher s k past may legal =
     let b = begins past s k may in
     let all : list_all (is_later (last_started_of s past)) (b.request ∷ b.others) ≡ true = subst (λ (l : List Request). list_all (is_later (last_started_of s past)) l ≡ true) b.waiting (is-started s past legal).least in
@@ -103,7 +105,7 @@ started-higher s k past may legal =
       first : (m n : ℕ) → n ≡ k → nat_lt m n ≡ true → m < k
       first m n e h = grind (arith, nat_tests)
 
-started-grows : (s : ℕ) (e : Entry) (past : List Entry) → MayFollow past e → AllFollow past → last_started_of s past ≤ last_started_of s (e ∷ past)
+started-grows : (s : ℕ) (e : Entry) (past : List Entry) → Comes past e → AllCome past → last_started_of s past ≤ last_started_of s (e ∷ past)
 started-grows s (Open t) past may legal = omega arith
 started-grows s (Admit t k lane input) past may legal = omega arith
 started-grows s (Start t k) past may legal = either (t == s) refl where
@@ -112,20 +114,21 @@ started-grows s (Start t k) past may legal = either (t == s) refl where
   either false h = omega arith
 started-grows s (Done t k plan reply moment) past may legal = omega arith
 started-grows s (OobDone t k plan reply moment) past may legal = omega arith
+started-grows s (Tick moment) past may legal = omega arith
 started-grows s (Take t lines) past may legal = omega arith
 started-grows s (Eof t) past may legal = omega arith
 started-grows s (Drop t cause) past may legal = omega arith
 
-started-later : (s : ℕ) (later past : List Entry) → AllFollow (later ++ past) → last_started_of s past ≤ last_started_of s (later ++ past)
+started-later : (s : ℕ) (later past : List Entry) → AllCome (later ++ past) → last_started_of s past ≤ last_started_of s (later ++ past)
 started-later s [] past legal = omega arith
 started-later s (e ∷ later) past legal =
     (let one = started-grows s e (later ++ past) legal.0 legal.1 in let more = started-later s later past legal.1 in omega (arith, one, more))
 
 -- what runs is the request that was started last
-runs-started : (s k : ℕ) (past : List Entry) → AllFollow past → named_of (running_of past) ≡ Some record { session = s; number = k } → k ≡ last_started_of s past
+runs-started : (s k : ℕ) (past : List Entry) → AllCome past → named_of (running_of past) ≡ Some record { session = s; number = k } → k ≡ last_started_of s past
 runs-started s k past legal h = (let runs = named (running_of past) s k h in sym runs.number ∙ (is-started s past legal).runs runs.found runs.is runs.session)
 
-pub start-order : (s k j : ℕ) (later past : List Entry) → AllFollow (later ++ Start s k ∷ past) → MayStart (later ++ Start s k ∷ past) s j → k < j
+pub start-order : (s k j : ℕ) (later past : List Entry) → AllCome (later ++ Start s k ∷ past) → MayStart (later ++ Start s k ∷ past) s j → k < j
 start-order s k j later past legal may =
     let higher = started-higher s j (later ++ Start s k ∷ past) may legal in
     let grown = started-later s later (Start s k ∷ past) legal in
@@ -137,7 +140,7 @@ start-order s k j later past legal may =
 some_is : (q r : Request) → Some q ≡ Some r → q ≡ r
 some_is q r h = cc
 
-opens-last : (s : ℕ) (past : List Entry) (q : Request) → AllFollow past → open_out_of_band_of s past ≡ Some q → q.number ≡ admitted_of s past
+opens-last : (s : ℕ) (past : List Entry) (q : Request) → AllCome past → open_out_of_band_of s past ≡ Some q → q.number ≡ admitted_of s past
 opens-last s [] q legal h = absurd cc
 opens-last s (Open t ∷ past) q legal h = opens-last s past q legal.1 h ∙ sym (no-more s (Open t) past refl)
 opens-last s (Admit t k lane input ∷ past) q legal h = by_lane (t == s) lane refl (opens-last s past q legal.1) h where
@@ -166,6 +169,7 @@ opens-last s (OobDone t k plan reply moment ∷ past) q legal h = left (t == s) 
   left : (b : Bool) → cond b None (open_out_of_band_of s past) ≡ Some q → (open_out_of_band_of s past ≡ Some q → q.number ≡ admitted_of s past) → q.number ≡ admitted_of s past
   left true g before = absurd cc
   left false g before = before g
+opens-last s (Tick moment ∷ past) q legal h = opens-last s past q legal.1 h ∙ sym (no-more s (Tick moment) past refl)
 opens-last s (Take t lines ∷ past) q legal h = opens-last s past q legal.1 h ∙ sym (no-more s (Take t lines) past refl)
 opens-last s (Eof t ∷ past) q legal h = opens-last s past q legal.1 h ∙ sym (no-more s (Eof t) past refl)
 opens-last s (Drop t cause ∷ past) q legal h = left (t == s) h (opens-last s past q legal.1) ∙ sym (no-more s (Drop t cause) past refl) where
@@ -175,17 +179,17 @@ opens-last s (Drop t cause ∷ past) q legal h = left (t == s) h (opens-last s p
 
 -- once an in-band request was answered, each reply of its session is to a later request
 
-runs-known : (s k : ℕ) (past : List Entry) → AllFollow past → named_of (running_of past) ≡ Some record { session = s; number = k } → k ≤ admitted_of s past
+runs-known : (s k : ℕ) (past : List Entry) → AllCome past → named_of (running_of past) ≡ Some record { session = s; number = k } → k ≤ admitted_of s past
 runs-known s k past legal h =
     let runs = named (running_of past) s k h in
     let low : runs.found.number ≤ admitted_of runs.found.session past = (counted past legal).runs runs.found runs.is in
     let of_session : admitted_of runs.found.session past ≡ admitted_of s past = ap (λ (u : ℕ). admitted_of u past) runs.session in
     omega (arith, low, runs.number, of_session)
 
-opens-known : (s k : ℕ) (past : List Entry) → AllFollow past → named_of (open_out_of_band_of s past) ≡ Some record { session = s; number = k } → k ≡ admitted_of s past
+opens-known : (s k : ℕ) (past : List Entry) → AllCome past → named_of (open_out_of_band_of s past) ≡ Some record { session = s; number = k } → k ≡ admitted_of s past
 opens-known s k past legal h = (let opens = named (open_out_of_band_of s past) s k h in sym opens.number ∙ opens-last s past opens.found legal opens.is)
 
-reply-low : (s j k : ℕ) (e : Entry) (plan : Option Plan) (reply : Json) (moment : ℕ) (later past : List Entry) → AllFollow (later ++ Done s j plan reply moment ∷ past) → MayFollow (later ++ Done s j plan reply moment ∷ past) e →
+reply-low : (s j k : ℕ) (e : Entry) (plan : Option Plan) (reply : Json) (moment : ℕ) (later past : List Entry) → AllCome (later ++ Done s j plan reply moment ∷ past) → Comes (later ++ Done s j plan reply moment ∷ past) e →
     replies_to s k e ≡ true → j ≤ k
 reply-low s j k (Open t) plan reply moment later past legal may h = absurd cc
 reply-low s j k (Admit t i lane input) plan reply moment later past legal may h = absurd cc
@@ -207,12 +211,13 @@ reply-low s j k (OobDone t i p r m) plan reply moment later past legal may h =
     let opens = subst (λ (u : ℕ). named_of (open_out_of_band_of u (later ++ Done s j plan reply moment ∷ past)) ≡ Some record { session = u; number = i }) (equal t s parts.0) may.request in
     let last = opens-known s i (later ++ Done s j plan reply moment ∷ past) legal opens in
     omega (arith, first, one, grown, last, equal i k parts.1)
+reply-low s j k (Tick moment) plan reply moment later past legal may h = absurd cc
 reply-low s j k (Take t lines) plan reply moment later past legal may h = absurd cc
 reply-low s j k (Eof t) plan reply moment later past legal may h = absurd cc
 reply-low s j k (Drop t cause) plan reply moment later past legal may h = absurd cc
 
 -- two replies are not to one request
-other-reply : (s k : ℕ) (e f : Entry) (later past : List Entry) → AllFollow (f ∷ (later ++ e ∷ past)) → replies_to s k e ≡ true → replies_to s k f ≡ true → ⊥
+other-reply : (s k : ℕ) (e f : Entry) (later past : List Entry) → AllCome (f ∷ (later ++ e ∷ past)) → replies_to s k e ≡ true → replies_to s k f ≡ true → ⊥
 other-reply s k e f later past legal first second =
     let most = once s k (f ∷ (later ++ e ∷ past)) legal in
     let one = count-cons (replies_to s k) f (later ++ e ∷ past) in
@@ -222,7 +227,7 @@ other-reply s k e f later past legal first second =
     let e_is : unit (replies_to s k e) ≡ 1 = ap (λ (b : Bool). unit b) first in
     omega (arith, most, one, more, two, f_is, e_is)
 
-pub reply-order : (s j k : ℕ) (e : Entry) (plan : Option Plan) (reply : Json) (moment : ℕ) (later past : List Entry) → AllFollow (later ++ Done s j plan reply moment ∷ past) → MayFollow (later ++ Done s j plan reply moment ∷ past) e →
+pub reply-order : (s j k : ℕ) (e : Entry) (plan : Option Plan) (reply : Json) (moment : ℕ) (later past : List Entry) → AllCome (later ++ Done s j plan reply moment ∷ past) → Comes (later ++ Done s j plan reply moment ∷ past) e →
     replies_to s k e ≡ true → j < k
 reply-order s j k e plan reply moment later past legal may h = elim (cases_lt j k) [
   | inl low ↦ low

@@ -5,7 +5,7 @@ use Rattle.std.proofs.lemmas.List.{reverse-append}
 use Rattle.qm_caps.specs.declared.mode.Lane.{Lane, TheVariants.InBand, TheVariants.Oob}
 use Rattle.qm_json.specs.declared.value.Json.{Json}
 use Rattle.qm_plan.specs.declared.recipes.Plan.{Plan}
-use Rattle.qm_core.specs.declared.entries.Entry.{Entry, TheVariants.Open, TheVariants.Admit, TheVariants.Start, TheVariants.Done, TheVariants.OobDone, TheVariants.Take, TheVariants.Eof, TheVariants.Drop}
+use Rattle.qm_core.specs.declared.entries.Entry.{Entry, TheVariants.Open, TheVariants.Admit, TheVariants.Start, TheVariants.Done, TheVariants.OobDone, TheVariants.Tick, TheVariants.Take, TheVariants.Eof, TheVariants.Drop}
 use Rattle.qm_core.specs.declared.{inputs.Input.Input, requests.Request.Request, world.World.World}
 use Rattle.qm_core.specs.{Drained.is_drained, Legal.AllFollow, Legal.IsLegal, Legal.past_of, Order.MayFollow, Replies.is_return, State.store_of}
 use Rattle.qm_core.specs.Requests.{admits_request, names_out_of_band, replies_to, starts}
@@ -51,6 +51,7 @@ reply-admitted s k (OobDone t j plan reply moment) past may h =
     let parts = both (t == s) (j == k) h in
     let here = named-admitted t j _ past (λ q is. (all-admitted past).opens t q is) may.request in
     subst (λ (n : ℕ). list_any (admits_request s n) past ≡ true) (equal j k parts.1) (subst (λ (u : ℕ). list_any (admits_request u j) past ≡ true) (equal t s parts.0) here)
+reply-admitted s k (Tick moment) past may h = absurd cc
 reply-admitted s k (Take t lines) past may h = absurd cc
 reply-admitted s k (Eof t) past may h = absurd cc
 reply-admitted s k (Drop t cause) past may h = absurd cc
@@ -95,6 +96,7 @@ not-overtaken world before (Done t i plan reply moment) later f after s k j lane
     absurd (omega (arith, higher, low, equal i k parts.1))
 not-overtaken world before (OobDone t i plan reply moment) later f after s k j lane legal first second low oob =
     (let parts = both (t == s) (i == k) first in oob t i plan reply moment refl (equal t s parts.0) (equal i k parts.1))
+not-overtaken world before (Tick moment) later f after s k j lane legal first second low oob = absurd cc
 not-overtaken world before (Take t lines) later f after s k j lane legal first second low oob = absurd cc
 not-overtaken world before (Eof t) later f after s k j lane legal first second low oob = absurd cc
 not-overtaken world before (Drop t cause) later f after s k j lane legal first second low oob = absurd cc

@@ -2,7 +2,7 @@
 use Rattle.std.proofs.Common.{◌≡◌, ℕ, ◌==◌, true, false, ◌||◌, List, [], ◌∷◌, ◌++◌, reverse, refl, ap, append_assoc, ◌∙◌, subst, inl, inr}
 use Rattle.std.specs.List.{list_any}
 use Rattle.std.proofs.lemmas.{List.reverse-append, Bool.and_parts, Bool.or_cases, Bool.Decides.Decides-eqb}
-use Rattle.qm_core.specs.declared.entries.Entry.{Entry, TheVariants.Open, TheVariants.Admit, TheVariants.Start, TheVariants.Done, TheVariants.OobDone, TheVariants.Take, TheVariants.Eof, TheVariants.Drop}
+use Rattle.qm_core.specs.declared.entries.Entry.{Entry, TheVariants.Open, TheVariants.Admit, TheVariants.Start, TheVariants.Done, TheVariants.OobDone, TheVariants.Tick, TheVariants.Take, TheVariants.Eof, TheVariants.Drop}
 use Rattle.qm_core.specs.declared.world.World.{World}
 use Rattle.qm_core.specs.{Answers.IsAnswer, Answers.AllAnswer, Legal.past_of, Legal.AllFollow, Legal.IsLegal, Order.MayFollow}
 use Rattle.qm_core.specs.Standing.{sessions_of, was_opened, is_dropped}
@@ -75,6 +75,7 @@ dropped_opened s (Admit t k lane input ∷ past) legal h = dropped_opened s past
 dropped_opened s (Start t k ∷ past) legal h = dropped_opened s past legal.1 h
 dropped_opened s (Done t k plan reply moment ∷ past) legal h = dropped_opened s past legal.1 h
 dropped_opened s (OobDone t k plan reply moment ∷ past) legal h = dropped_opened s past legal.1 h
+dropped_opened s (Tick moment ∷ past) legal h = dropped_opened s past legal.1 h
 dropped_opened s (Take t lines ∷ past) legal h = dropped_opened s past legal.1 h
 dropped_opened s (Eof t ∷ past) legal h = dropped_opened s past legal.1 h
 dropped_opened s (Drop t cause ∷ past) legal h = dropped_here s t past ((and_parts _ _ legal.0.is_open).0) (dropped_opened s past legal.1) h where

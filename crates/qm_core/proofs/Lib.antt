@@ -1,5 +1,6 @@
 pub mod Admissions
 pub mod Candidates
+pub mod Coming
 pub mod Counting
 pub mod Counts
 pub mod DrainedLaws

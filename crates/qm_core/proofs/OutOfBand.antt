@@ -9,11 +9,12 @@ use Rattle.qm_caps.specs.declared.mode.Lane.{Lane, TheVariants.Oob}
 use Rattle.qm_caps.specs.declared.mode.Mode.{Mode}
 use Rattle.qm_caps.specs.Lanes.{lane_of as value_lane_of}
 use Rattle.qm_plan.specs.{Stores.Contents, declared.recipes.Plan.Plan}
-use Rattle.qm_core.specs.declared.entries.Entry.{Entry, TheVariants.Open, TheVariants.Admit, TheVariants.Start, TheVariants.Done, TheVariants.OobDone, TheVariants.Take, TheVariants.Eof, TheVariants.Drop}
+use Rattle.qm_core.specs.declared.entries.Entry.{Entry, TheVariants.Open, TheVariants.Admit, TheVariants.Start, TheVariants.Done, TheVariants.OobDone, TheVariants.Tick, TheVariants.Take, TheVariants.Eof, TheVariants.Drop}
 use Rattle.qm_core.specs.declared.{inputs.Input.Input, inputs.Input.TheVariants.Doc, inputs.Input.TheVariants.Bad, requests.Request.Request, world.World.World}
-use Rattle.qm_core.specs.{Inputs.arguments_of, Inputs.is_verb, Inputs.lane_of, Legal.AllFollow, Legal.IsLegal, Legal.past_of, Order.MayFollow, Requests.names_out_of_band, State.store_of, State.stored}
+use Rattle.qm_core.specs.{Inputs.arguments_of, Inputs.is_verb, Inputs.lane_of, Legal.IsLegal, Legal.past_of, Requests.names_out_of_band, State.store_of, State.stored}
 use Rattle.qm_core.specs.{Planned.planned_for, Planned.plan_for, Planned.command_by, Replies.is_return, Replies.reply_to}
 use Rattle.qm_core.specs.Verdicts.{Refusal, Malformed, NoVerb, VerbNoString, UnknownCommand, NotOutOfBand, Verdict, Refused, refused_or, first_of, run_of, bad_arguments, misplaced, malformed, allows_out_of_band, command_verdict_of, verb_verdict_of, verdict_of}
+use Rattle.qm_core.proofs.Coming.{AllCome, Comes}
 use Rattle.qm_core.proofs.{Admissions.open-matched, Journals.placed_after, StoreLaws.refused-error}
 use Rattle.qm_core.proofs.Holding.{Holding, IsGood, hold, none-held}
 
@@ -52,17 +53,18 @@ oob-refusal world mode (Bad bad) oob none = record { refusal = Malformed bad; is
 abbrev HasLane : Lane → Request → Type 0
 HasLane lane q = lane ≡ lane_of q.mode q.input
 
-lane-good : (e : Entry) (past : List Entry) → MayFollow past e → IsGood HasLane past e
+lane-good : (e : Entry) (past : List Entry) → Comes past e → IsGood HasLane past e
 lane-good (Open t) past may = tt
 lane-good (Admit t k lane input) past may = may.in_lane
 lane-good (Start t k) past may = tt
 lane-good (Done t k plan reply moment) past may = tt
 lane-good (OobDone t k plan reply moment) past may = tt
+lane-good (Tick moment) past may = tt
 lane-good (Take t lines) past may = tt
 lane-good (Eof t) past may = tt
 lane-good (Drop t cause) past may = tt
 
-lanes : (past : List Entry) → AllFollow past → Holding HasLane past
+lanes : (past : List Entry) → AllCome past → Holding HasLane past
 lanes [] legal = none-held HasLane
 lanes (e ∷ past) legal = hold HasLane e past (lane-good e past legal.0) (lanes past legal.1)
 

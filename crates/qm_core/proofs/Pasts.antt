@@ -9,10 +9,11 @@ use Rattle.std.proofs.lemmas.List.Sums.{count_by-le-length}
 use Rattle.qm_caps.specs.Lanes.{is_in_band}
 use Rattle.qm_queue.specs.{Turns.precedes, declared.turns.TurnItem.TurnItem}
 use Rattle.qm_core.specs.declared.entries.Entry.{Entry}
-use Rattle.qm_core.specs.declared.entries.Entry.TheVariants.{Open, Admit, Start, Done, OobDone, Take, Eof, Drop}
+use Rattle.qm_core.specs.declared.entries.Entry.TheVariants.{Open, Admit, Start, Done, OobDone, Tick, Take, Eof, Drop}
 use Rattle.qm_core.specs.declared.{requests.Request.Request, requests.RequestName.RequestName, TheConstants.MOST_SESSIONS}
-use Rattle.qm_core.specs.{Legal.past_of, Legal.AllFollow, Order.MayStart}
+use Rattle.qm_core.specs.{Legal.past_of, Order.MayStart}
 use Rattle.qm_core.specs.Standing.{sessions_of, was_opened, is_dropped, is_open, is_ready, admits, admitted_of, mode_of, waiting_of, running_of, starting_of, turn_of, turn_item, named_of}
+use Rattle.qm_core.proofs.Coming.{AllCome}
 use Rattle.qm_core.proofs.{Counting.unit, Counting.count-cons, Numbers.numbers_from, Numbers.numbers-more, Numbers.any-numbers}
 
 pub both : (a b : Bool) → (a && b) ≡ true → (a ≡ true) × (b ≡ true)
@@ -36,7 +37,7 @@ pub open_opened : (s : ℕ) (past : List Entry) → is_open s past ≡ true → 
 open_opened s past h = (both (was_opened s past) (not (is_dropped s past)) h).0
 
 -- the sessions are numbered from one on
-pub sessions-are : (past : List Entry) → AllFollow past → sessions_of past ≡ numbers_from 1 (length (sessions_of past))
+pub sessions-are : (past : List Entry) → AllCome past → sessions_of past ≡ numbers_from 1 (length (sessions_of past))
 sessions-are [] legal = refl
 sessions-are (Open s ∷ past) legal =
     let before = sessions-are past legal.1 in
@@ -54,25 +55,26 @@ sessions-are (Admit s k lane input ∷ past) legal = sessions-are past legal.1
 sessions-are (Start s k ∷ past) legal = sessions-are past legal.1
 sessions-are (Done s k plan reply moment ∷ past) legal = sessions-are past legal.1
 sessions-are (OobDone s k plan reply moment ∷ past) legal = sessions-are past legal.1
+sessions-are (Tick moment ∷ past) legal = sessions-are past legal.1
 sessions-are (Take s lines ∷ past) legal = sessions-are past legal.1
 sessions-are (Eof s ∷ past) legal = sessions-are past legal.1
 sessions-are (Drop s cause ∷ past) legal = sessions-are past legal.1
 
 -- a session was opened where its number is that of one
-pub opened-is : (s : ℕ) (past : List Entry) → AllFollow past → was_opened s past ≡ (nat_le 1 s && nat_lt s (1 + length (sessions_of past)))
+pub opened-is : (s : ℕ) (past : List Entry) → AllCome past → was_opened s past ≡ (nat_le 1 s && nat_lt s (1 + length (sessions_of past)))
 opened-is s past legal = ap (λ (l : List ℕ). list_any (λ t. t == s) l) (sessions-are past legal) ∙ any-numbers s 1 (length (sessions_of past))
 
-pub opened-within : (s : ℕ) (past : List Entry) → AllFollow past → was_opened s past ≡ true → (0 < s) × (s ≤ length (sessions_of past))
+pub opened-within : (s : ℕ) (past : List Entry) → AllCome past → was_opened s past ≡ true → (0 < s) × (s ≤ length (sessions_of past))
 opened-within s past legal h = bounds s (length (sessions_of past)) (sym (opened-is s past legal) ∙ h) where
   bounds : (s n : ℕ) → (nat_le 1 s && nat_lt s (1 + n)) ≡ true → (0 < s) × (s ≤ n)
   bounds s n h = (let parts = both (nat_le 1 s) (nat_lt s (1 + n)) h in (grind (arith, nat_tests, parts.0), grind (arith, nat_tests, parts.1)))
 
-pub within-opened : (s : ℕ) (past : List Entry) → AllFollow past → 0 < s → s ≤ length (sessions_of past) → was_opened s past ≡ true
+pub within-opened : (s : ℕ) (past : List Entry) → AllCome past → 0 < s → s ≤ length (sessions_of past) → was_opened s past ≡ true
 within-opened s past legal low high = opened-is s past legal ∙ tests s (length (sessions_of past)) low high where
   tests : (s n : ℕ) → 0 < s → s ≤ n → (nat_le 1 s && nat_lt s (1 + n)) ≡ true
   tests s n low high = grind (arith, nat_tests)
 
-pub past-not-opened : (s : ℕ) (past : List Entry) → AllFollow past → length (sessions_of past) < s → was_opened s past ≡ false
+pub past-not-opened : (s : ℕ) (past : List Entry) → AllCome past → length (sessions_of past) < s → was_opened s past ≡ false
 past-not-opened s past legal late = opened-is s past legal ∙ tests s (length (sessions_of past)) late where
   tests : (s n : ℕ) → n < s → (nat_le 1 s && nat_lt s (1 + n)) ≡ false
   tests s n late = grind (arith, nat_tests)
@@ -105,6 +107,7 @@ waiting-session s (Admit t k lane input ∷ past) =
 waiting-session s (Start t k ∷ past) = (let before = waiting-session s past in chosen (is_of_session s) (t == s) _ _ (λ h. keeps (is_of_session s) _ (waiting_of s past) before) before)
 waiting-session s (Done t k plan reply moment ∷ past) = waiting-session s past
 waiting-session s (OobDone t k plan reply moment ∷ past) = waiting-session s past
+waiting-session s (Tick moment ∷ past) = waiting-session s past
 waiting-session s (Take t lines ∷ past) = waiting-session s past
 waiting-session s (Eof t ∷ past) = waiting-session s past
 waiting-session s (Drop t cause ∷ past) = (let before = waiting-session s past in chosen (is_of_session s) (t == s) _ _ (λ h. refl) before)
@@ -151,7 +154,7 @@ pub record Waits (s : ℕ) (past : List Entry) : Type 0 where
   pub order : in_order (waiting_of s past) ≡ true
   pub within : list_all (λ r. nat_le r.number (admitted_of s past)) (waiting_of s past) ≡ true
 
-pub waits : (s : ℕ) (past : List Entry) → AllFollow past → Waits s past
+pub waits : (s : ℕ) (past : List Entry) → AllCome past → Waits s past
 waits s [] legal = record { order = refl; within = refl }
 waits s (Open t ∷ past) legal = (let before = waits s past legal.1 in record { order = before.order; within = before.within })
 waits s (Admit t k lane input ∷ past) legal = (let before = waits s past legal.1 in record { order = order_of (t == s && is_in_band lane) next before; within = within_of before }) where
@@ -189,6 +192,7 @@ waits s (Start t k ∷ past) legal = (let parts = start (t == s) (waits s past l
   start false before = (before.order, before.within)
 waits s (Done t k plan reply moment ∷ past) legal = (let before = waits s past legal.1 in record { order = before.order; within = before.within })
 waits s (OobDone t k plan reply moment ∷ past) legal = (let before = waits s past legal.1 in record { order = before.order; within = before.within })
+waits s (Tick moment ∷ past) legal = (let before = waits s past legal.1 in record { order = before.order; within = before.within })
 waits s (Take t lines ∷ past) legal = (let before = waits s past legal.1 in record { order = before.order; within = before.within })
 waits s (Eof t ∷ past) legal = (let before = waits s past legal.1 in record { order = before.order; within = before.within })
 waits s (Drop t cause ∷ past) legal = (let parts = drop (t == s) (waits s past legal.1) in record { order = parts.0; within = parts.1 }) where
@@ -325,7 +329,7 @@ pub record Begun (past : List Entry) (s k : ℕ) (begins : Begins past s k) : Ty
   pub later : list_all (λ r. nat_lt k r.number) begins.others ≡ true
   pub within : k ≤ admitted_of s past
 
-pub begun : (past : List Entry) (s k : ℕ) (b : Begins past s k) → AllFollow past → Begun past s k b
+pub begun : (past : List Entry) (s k : ℕ) (b : Begins past s k) → AllCome past → Begun past s k b
 begun past s k b legal =
     let before = waits s past legal in
     let order : in_order (b.request ∷ b.others) ≡ true = subst (λ (l : List Request). in_order l ≡ true) b.waiting before.order in
@@ -362,7 +366,7 @@ start-opened s k past may = open_opened s past (ready-open s past (begins past s
 opened_more : (s t : ℕ) (opened : List ℕ) → list_any (λ u. u == s) opened ≡ true → list_any (λ u. u == s) (opened ++ t ∷ []) ≡ true
 opened_more s t opened h = list_any-append (λ u. u == s) opened (t ∷ []) ∙ rw h refl
 
-pub running-opened : (past : List Entry) (q : Request) → AllFollow past → running_of past ≡ Some q → was_opened q.session past ≡ true
+pub running-opened : (past : List Entry) (q : Request) → AllCome past → running_of past ≡ Some q → was_opened q.session past ≡ true
 running-opened [] q legal h = absurd cc
 running-opened (Open t ∷ past) q legal h = opened_more q.session t (sessions_of past) (running-opened past q legal.1 h)
 running-opened (Admit t k lane input ∷ past) q legal h = running-opened past q legal.1 h
@@ -374,11 +378,12 @@ running-opened (Start t k ∷ past) q legal h =
     rw of_session (start-opened t k past legal.0)
 running-opened (Done t k plan reply moment ∷ past) q legal h = absurd cc
 running-opened (OobDone t k plan reply moment ∷ past) q legal h = running-opened past q legal.1 h
+running-opened (Tick moment ∷ past) q legal h = running-opened past q legal.1 h
 running-opened (Take t lines ∷ past) q legal h = running-opened past q legal.1 h
 running-opened (Eof t ∷ past) q legal h = running-opened past q legal.1 h
 running-opened (Drop t cause ∷ past) q legal h = running-opened past q legal.1 h
 
-pub named-opened : (past : List Entry) (s k : ℕ) → AllFollow past → named_of (running_of past) ≡ Some record { session = s; number = k } → was_opened s past ≡ true
+pub named-opened : (past : List Entry) (s k : ℕ) → AllCome past → named_of (running_of past) ≡ Some record { session = s; number = k } → was_opened s past ≡ true
 named-opened past s k legal h =
     let runs = named (running_of past) s k h in
     subst (λ (u : ℕ). was_opened u past ≡ true) runs.session (running-opened past runs.found legal runs.is)
@@ -391,13 +396,14 @@ few-admitted s past = count_by-le-length (admits s) past
 pub admitted_fits : (s : ℕ) (journal : List Entry) → admitted_of s (past_of journal) ≤ length journal
 admitted_fits s journal = omega (arith, few-admitted s (past_of journal), length-reverse journal)
 
-pub few-sessions : (past : List Entry) → AllFollow past → length (sessions_of past) ≤ MOST_SESSIONS
+pub few-sessions : (past : List Entry) → AllCome past → length (sessions_of past) ≤ MOST_SESSIONS
 few-sessions [] legal = omega arith
 few-sessions (Open s ∷ past) legal = (let long = length-append (sessions_of past) (s ∷ []) in omega (arith, legal.0.next, legal.0.few, long))
 few-sessions (Admit s k lane input ∷ past) legal = few-sessions past legal.1
 few-sessions (Start s k ∷ past) legal = few-sessions past legal.1
 few-sessions (Done s k plan reply moment ∷ past) legal = few-sessions past legal.1
 few-sessions (OobDone s k plan reply moment ∷ past) legal = few-sessions past legal.1
+few-sessions (Tick moment ∷ past) legal = few-sessions past legal.1
 few-sessions (Take s lines ∷ past) legal = few-sessions past legal.1
 few-sessions (Eof s ∷ past) legal = few-sessions past legal.1
 few-sessions (Drop s cause ∷ past) legal = few-sessions past legal.1

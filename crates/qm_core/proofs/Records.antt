@@ -6,12 +6,13 @@ use Rattle.qm_caps.specs.{Greetings.greeting_value, Lanes.is_in_band, Modes.is_n
 use Rattle.qm_caps.specs.declared.mode.Lane.{Lane, TheVariants.InBand, TheVariants.Oob}
 use Rattle.qm_plan.specs.declared.recipes.Plan.{Plan}
 use Rattle.qm_core.specs.declared.entries.{Cause.Cause, Entry.Entry}
-use Rattle.qm_core.specs.declared.entries.Entry.TheVariants.{Open, Admit, Start, Done, OobDone, Take, Eof, Drop}
+use Rattle.qm_core.specs.declared.entries.Entry.TheVariants.{Open, Admit, Start, Done, OobDone, Tick, Take, Eof, Drop}
 use Rattle.qm_core.specs.declared.{inputs.Input.Input}
-use Rattle.qm_core.specs.{Legal.AllFollow, Planned.mode_by}
+use Rattle.qm_core.specs.Planned.{mode_by}
 use Rattle.qm_core.specs.Sessions.{Kept, session_at, fresh, sent, told}
 use Rattle.qm_core.specs.Standing.{sessions_of, was_opened, is_open, is_dropped, admits, admitted_of, mode_of, waiting_of, running_of, open_out_of_band_of, answers, last_start_of, next_request}
 use Rattle.qm_core.specs.Transcript.{untaken_of}
+use Rattle.qm_core.proofs.Coming.{AllCome}
 use Rattle.qm_core.proofs.Counting.{count-cons}
 use Rattle.qm_core.proofs.Pasts.{Begins, begun, differ, same, or_none, open_opened, start-opened, named-opened}
 use Rattle.qm_core.proofs.Transcripts.{sent-more, none-untaken}
@@ -67,7 +68,7 @@ admit-here s k lane input past next = by_lane lane where
   by_lane Oob = rw (more Oob, same s, next) refl
 
 -- a request is started
-pub start-here : (s k : ℕ) (past : List Entry) (b : Begins past s k) → AllFollow past →
+pub start-here : (s k : ℕ) (past : List Entry) (b : Begins past s k) → AllCome past →
     session_at (Start s k ∷ past) s ≡ record (session_at past s) { last_start = Some (length past + 1); waiting = b.others }
 start-here s k past b legal =
     let left = (begun past s k b legal).waits in
@@ -75,7 +76,7 @@ start-here s k past b legal =
     rw (left, last) refl
 
 -- the running request is answered
-pub done-here : (s k : ℕ) (plan : Option Plan) (reply : Json) (moment : ℕ) (past : List Entry) → AllFollow past → was_opened s past ≡ true →
+pub done-here : (s k : ℕ) (plan : Option Plan) (reply : Json) (moment : ℕ) (past : List Entry) → AllCome past → was_opened s past ≡ true →
     session_at (Done s k plan reply moment ∷ past) s ≡ record (told (session_at past s) (printed reply)) {
       mode = cond (is_negotiating (mode_of s past) && answers (codes "qmp_capabilities") (running_of past) reply) (mode_by plan) (mode_of s past);
     }
@@ -87,11 +88,11 @@ done-here s k plan reply moment past legal known = either (is_dropped s past) re
   either false h = (let more = sent-more s past (printed reply) legal in rw (same s, known, h, more.0, more.1) refl)
 
 -- the request that is open out of band is answered
-pub oob-here : (s k : ℕ) (plan : Option Plan) (reply : Json) (moment : ℕ) (past : List Entry) → AllFollow past → is_open s past ≡ true →
+pub oob-here : (s k : ℕ) (plan : Option Plan) (reply : Json) (moment : ℕ) (past : List Entry) → AllCome past → is_open s past ≡ true →
     session_at (OobDone s k plan reply moment ∷ past) s ≡ record (sent (session_at past s) (printed reply)) { open_out_of_band = None }
 oob-here s k plan reply moment past legal opened = (let more = sent-more s past (printed reply) legal in rw (same s, opened, more.0, more.1) refl)
 
-pub take-here : (s : ℕ) (lines : List (List ℕ)) (past : List Entry) → AllFollow past → lines ≡ untaken_of s past →
+pub take-here : (s : ℕ) (lines : List (List ℕ)) (past : List Entry) → AllCome past → lines ≡ untaken_of s past →
     session_at (Take s lines ∷ past) s ≡ record (session_at past s) { outbox = [] }
 take-here s lines past legal all = rw (none-untaken s past lines legal all) refl
 
@@ -105,7 +106,7 @@ stranger : (s t : ℕ) (past : List Entry) → was_opened s past ≡ false → w
 stranger s t past none known e = (let h : false ≡ true = sym (subst (λ (u : ℕ). was_opened u past ≡ false) e none) ∙ known in cc)
 
 -- a session that was not opened has nothing
-pub untouched : (past : List Entry) (s : ℕ) → AllFollow past → was_opened s past ≡ false → session_at past s ≡ fresh
+pub untouched : (past : List Entry) (s : ℕ) → AllCome past → was_opened s past ≡ false → session_at past s ≡ fresh
 untouched [] s legal none = refl
 untouched (Open t ∷ past) s legal none =
     let parts = or_none (was_opened s past) ((t == s) || false) (sym (list_any-append (λ u. u == s) (sessions_of past) (t ∷ [])) ∙ none) in
@@ -115,12 +116,13 @@ untouched (Admit t k lane input ∷ past) s legal none = admit-other t k s lane 
 untouched (Start t k ∷ past) s legal none = start-other t k s past (stranger s t past none (start-opened t k past legal.0)) ∙ untouched past s legal.1 none
 untouched (Done t k plan reply moment ∷ past) s legal none = done-other t k s plan reply moment past (stranger s t past none (named-opened past t k legal.1 legal.0.running)) ∙ untouched past s legal.1 none
 untouched (OobDone t k plan reply moment ∷ past) s legal none = oob-other t k s plan reply moment past (stranger s t past none (open_opened t past legal.0.is_open)) ∙ untouched past s legal.1 none
+untouched (Tick moment ∷ past) s legal none = eof-other t s past (stranger s t past none (open_opened t past legal.0.is_open)) ∙ untouched past s legal.1 none
 untouched (Take t lines ∷ past) s legal none = take-other t s lines past (stranger s t past none (open_opened t past legal.0.is_open)) ∙ untouched past s legal.1 none
 untouched (Eof t ∷ past) s legal none = eof-other t s past (stranger s t past none (open_opened t past legal.0.is_open)) ∙ untouched past s legal.1 none
 untouched (Drop t cause ∷ past) s legal none = drop-other t s cause past (stranger s t past none (open_opened t past legal.0.is_open)) ∙ untouched past s legal.1 none
 
 -- a session is opened, and sent the greeting
-pub open-here : (s : ℕ) (past : List Entry) → AllFollow past → was_opened s past ≡ false → session_at (Open s ∷ past) s ≡ sent fresh (printed greeting_value)
+pub open-here : (s : ℕ) (past : List Entry) → AllCome past → was_opened s past ≡ false → session_at (Open s ∷ past) s ≡ sent fresh (printed greeting_value)
 open-here s past legal none =
     let before = untouched past s legal none in
     let more = sent-more s past (printed greeting_value) legal in

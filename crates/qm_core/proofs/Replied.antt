@@ -5,10 +5,11 @@ use Rattle.std.proofs.lemmas.Bool.Decides.{nat_tests}
 use Rattle.qm_caps.specs.declared.mode.Lane.{Lane, TheVariants.InBand, TheVariants.Oob}
 use Rattle.qm_json.specs.declared.value.Json.{Json}
 use Rattle.qm_plan.specs.declared.recipes.Plan.{Plan}
-use Rattle.qm_core.specs.declared.entries.Entry.{Entry, TheVariants.Open, TheVariants.Admit, TheVariants.Start, TheVariants.Done, TheVariants.OobDone, TheVariants.Take, TheVariants.Eof, TheVariants.Drop}
+use Rattle.qm_core.specs.declared.entries.Entry.{Entry, TheVariants.Open, TheVariants.Admit, TheVariants.Start, TheVariants.Done, TheVariants.OobDone, TheVariants.Tick, TheVariants.Take, TheVariants.Eof, TheVariants.Drop}
 use Rattle.qm_core.specs.declared.{entries.Cause.Cause, inputs.Input.Input, requests.Request.Request, requests.RequestName.RequestName}
-use Rattle.qm_core.specs.{Legal.AllFollow, Order.MayStart, Requests.replies_to}
+use Rattle.qm_core.specs.{Order.MayStart, Requests.replies_to}
 use Rattle.qm_core.specs.Standing.{admits, admitted_of, mode_of, is_dropped, waiting_of, running_of, open_out_of_band_of, named_of}
+use Rattle.qm_core.proofs.Coming.{AllCome}
 use Rattle.qm_core.proofs.Counting.{unit, count-cons, count-push}
 use Rattle.qm_core.proofs.Pasts.{Begins, begins, begun, both, equal, same, is_of_session, waiting-session}
 
@@ -85,7 +86,7 @@ found-other t s k p (q ∷ ws) all other =
       either true here more = here
       either false here more = more
 
-start-moves : (s k t j : ℕ) (past : List Entry) → MayStart past t j → AllFollow past →
+start-moves : (s k t j : ℕ) (past : List Entry) → MayStart past t j → AllCome past →
     count_by (has_number k) (waiting_of s (Start t j ∷ past)) + unit (is_named s k (running_of (Start t j ∷ past)))
     ≡ count_by (has_number k) (waiting_of s past) + unit (is_named s k (running_of past))
 start-moves s k t j past may legal = either (t == s) refl where
@@ -159,13 +160,14 @@ plain s k e past none = count-cons (replies_to s k) e past ∙ rw none (omega ar
 pub no-more : (s : ℕ) (e : Entry) (past : List Entry) → admits s e ≡ false → admitted_of s (e ∷ past) ≡ admitted_of s past
 no-more s e past none = count-cons (admits s) e past ∙ rw none (omega arith)
 
-pub stands : (s k : ℕ) (past : List Entry) → AllFollow past → Stands s k past
+pub stands : (s k : ℕ) (past : List Entry) → AllCome past → Stands s k past
 stands s k [] legal = record { most = omega arith; all = λ h. none k } where
   none : (k : ℕ) → places s k [] ≡ admissions k 0
   none k = grind (arith, nat_tests)
 stands s k (Open t ∷ past) legal =
     let replies = plain s k (Open t) past refl in
     stands-same s k (Open t) past (omega (arith, replies)) (no-more s (Open t) past refl) (λ h. h) (stands s k past legal.1)
+stands s k (Tick moment ∷ past) legal =
 stands s k (Take t lines ∷ past) legal =
     let replies = plain s k (Take t lines) past refl in
     stands-same s k (Take t lines) past (omega (arith, replies)) (no-more s (Take t lines) past refl) (λ h. h) (stands s k past legal.1)
@@ -233,5 +235,5 @@ stands s k (Drop t cause ∷ past) legal = dropped (t == s) refl (stands s k pas
       stands-same s k e past (omega (arith, replies, first, second)) (no-more s e past refl) (λ g. ap (λ (c : Bool). c || is_dropped s past) (sym h) ∙ g) before
 
 -- at most one reply
-pub once : (s k : ℕ) (past : List Entry) → AllFollow past → count_by (replies_to s k) past ≤ 1
+pub once : (s k : ℕ) (past : List Entry) → AllCome past → count_by (replies_to s k) past ≤ 1
 once s k past legal = (let most = (stands s k past legal).most in let one = one-or-none (nat_lt 0 k && nat_le k (admitted_of s past)) in omega (arith, most, one))

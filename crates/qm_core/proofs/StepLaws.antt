@@ -52,6 +52,7 @@ last-below (entry.Admit s k lane input ∷ past) legal = last-below past legal.1
 last-below (entry.Start s k ∷ past) legal = last-below past legal.1
 last-below (entry.Done s k plan reply moment ∷ past) legal = omega (arith, legal.0.timed.below, last-below past legal.1)
 last-below (entry.OobDone s k plan reply moment ∷ past) legal = omega (arith, legal.0.timed.below, last-below past legal.1)
+last-below (entry.Tick moment ∷ past) legal = last-below past legal.1
 last-below (entry.Take s lines ∷ past) legal = last-below past legal.1
 last-below (entry.Eof s ∷ past) legal = last-below past legal.1
 last-below (entry.Drop s why ∷ past) legal = last-below past legal.1

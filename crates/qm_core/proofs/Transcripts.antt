@@ -3,7 +3,7 @@ use Rattle.std.proofs.Common.{◌≡◌, ℕ, ◌==◌, Bool, true, false, not, 
 use Rattle.std.proofs.{Math.Seq.drop-append_seam, Math.Seq.drop-length, lemmas.Bool.Decides.Decides-eqb}
 use Rattle.qm_base.specs.Prefixes.{IsPrefix}
 use Rattle.qm_base.proofs.Prefixes.{empty_prefix, trans_prefix, left_prefix, refl_prefix}
-use Rattle.qm_core.specs.declared.entries.Entry.{Entry, TheVariants.Open, TheVariants.Admit, TheVariants.Start, TheVariants.Done, TheVariants.OobDone, TheVariants.Take, TheVariants.Eof, TheVariants.Drop}
+use Rattle.qm_core.specs.declared.entries.Entry.{Entry, TheVariants.Open, TheVariants.Admit, TheVariants.Start, TheVariants.Done, TheVariants.OobDone, TheVariants.Tick, TheVariants.Take, TheVariants.Eof, TheVariants.Drop}
 use Rattle.qm_core.specs.{Legal.AllFollow, Standing.is_open, Sessions.fits}
 use Rattle.qm_core.specs.Transcript.{Candidate, candidates_of, has_overrun, transcript_of, taken_of, untaken_of, with_line}
 use Rattle.qm_core.proofs.Candidates.{any_overruns, kept_lines, overruns-more, lines-more}
@@ -42,6 +42,7 @@ taken_first s (Admit t k lane input ∷ past) legal = taken_first s past legal.1
 taken_first s (Start t k ∷ past) legal = taken_first s past legal.1
 taken_first s (Done t k plan reply moment ∷ past) legal = let before = taken_first s past legal.1 in may_grow (t == s && is_open s past) _ (taken_of s past) (candidates_of s past) _ before before
 taken_first s (OobDone t k plan reply moment ∷ past) legal = let before = taken_first s past legal.1 in may_grow (t == s && is_open s past) _ (taken_of s past) (candidates_of s past) _ before before
+taken_first s (Tick moment ∷ past) legal = taken_first s past legal.1
 taken_first s (Take t lines ∷ past) legal = hand_out t lines (taken_first s past legal.1) legal.0.all where
   hand_out : (t : ℕ) (lines : List (List ℕ)) → IsPrefix (taken_of s past) (transcript_of s past) → lines ≡ untaken_of t past → IsPrefix (cond (t == s) (taken_of s past ++ lines) (taken_of s past)) (transcript_of s past)
   hand_out t lines p all = may_take _ _ _ _ p (λ same. let e : lines ≡ untaken_of s past = subst (λ (u : ℕ). lines ≡ untaken_of u past) ((Decides-eqb t s).0 same) all in rw e (all_taken _ _ p))

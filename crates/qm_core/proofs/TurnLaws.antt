@@ -6,10 +6,11 @@ use Rattle.std.proofs.lemmas.List.{length-append}
 use Rattle.std.proofs.lemmas.List.Folds.{list_any-append}
 use Rattle.qm_caps.specs.Lanes.{is_in_band}
 use Rattle.qm_queue.specs.{Turns.precedes}
-use Rattle.qm_core.specs.declared.entries.Entry.{Entry, TheVariants.Open, TheVariants.Admit, TheVariants.Start, TheVariants.Done, TheVariants.OobDone, TheVariants.Take, TheVariants.Eof, TheVariants.Drop}
+use Rattle.qm_core.specs.declared.entries.Entry.{Entry, TheVariants.Open, TheVariants.Admit, TheVariants.Start, TheVariants.Done, TheVariants.OobDone, TheVariants.Tick, TheVariants.Take, TheVariants.Eof, TheVariants.Drop}
 use Rattle.qm_core.specs.declared.requests.Request.{Request}
-use Rattle.qm_core.specs.{Legal.AllFollow, Order.MayFollow, Order.MayStart, Requests.starts}
+use Rattle.qm_core.specs.{Order.MayStart, Requests.starts}
 use Rattle.qm_core.specs.Standing.{sessions_of, was_opened, is_dropped, is_open, drops, is_ready, waiting_of, last_start_of, turn_item}
+use Rattle.qm_core.proofs.Coming.{AllCome, Comes}
 use Rattle.qm_core.proofs.Counting.{count-cons}
 use Rattle.qm_core.proofs.Pasts.{begins, both, differ, equal, or_none}
 
@@ -38,6 +39,7 @@ start-within s (Admit t k lane input ∷ past) = wider (length past) (length (Ad
 start-within s (Start t k ∷ past) = (let more : length past + 1 ≤ length (Start t k ∷ past) = omega arith in wider (length past + 1) (length (Start t k ∷ past)) (cond (t == s) (Some (length past + 1)) (last_start_of s past)) more (up-to (t == s) (length past) (last_start_of s past) (start-within s past)))
 start-within s (Done t k plan reply moment ∷ past) = wider (length past) (length (Done t k plan reply moment ∷ past)) (last_start_of s past) (omega arith) (start-within s past)
 start-within s (OobDone t k plan reply moment ∷ past) = wider (length past) (length (OobDone t k plan reply moment ∷ past)) (last_start_of s past) (omega arith) (start-within s past)
+start-within s (Tick moment ∷ past) = wider (length past) (length (Tick moment ∷ past)) (last_start_of s past) (omega arith) (start-within s past)
 start-within s (Take t lines ∷ past) = wider (length past) (length (Take t lines ∷ past)) (last_start_of s past) (omega arith) (start-within s past)
 start-within s (Eof t ∷ past) = wider (length past) (length (Eof t ∷ past)) (last_start_of s past) (omega arith) (start-within s past)
 start-within s (Drop t cause ∷ past) = wider (length past) (length (Drop t cause ∷ past)) (last_start_of s past) (omega arith) (start-within s past)
@@ -69,6 +71,7 @@ ready-kept s (Admit t k lane input) past no_start no_drop h =
 ready-kept s (Start t k) past no_start no_drop h = rw no_start h
 ready-kept s (Done t k plan reply moment) past no_start no_drop h = h
 ready-kept s (OobDone t k plan reply moment) past no_start no_drop h = h
+ready-kept s (Tick moment) past no_start no_drop h = h
 ready-kept s (Take t lines) past no_start no_drop h = h
 ready-kept s (Eof t) past no_start no_drop h = h
 ready-kept s (Drop t cause) past no_start no_drop h = rw no_drop h
@@ -129,17 +132,18 @@ start-entry s t u k later past may other before = either (u == t) refl where
       }
   either false h = other-entry s t (Start u k) later past h mine (rw h refl) ready before
 
-step : (s t : ℕ) (e : Entry) (later past : List Entry) → MayFollow (later ++ past) e → starts s e ≡ false → drops s e ≡ false → Overtakes s t later past → Overtakes s t (e ∷ later) past
+step : (s t : ℕ) (e : Entry) (later past : List Entry) → Comes (later ++ past) e → starts s e ≡ false → drops s e ≡ false → Overtakes s t later past → Overtakes s t (e ∷ later) past
 step s t (Start u k) later past may no_start no_drop before = start-entry s t u k later past may no_start before
 step s t (Open u) later past may no_start no_drop before = other-entry s t (Open u) later past refl refl refl (ready-kept s (Open u) (later ++ past) no_start no_drop before.ready) before
 step s t (Admit u k lane input) later past may no_start no_drop before = other-entry s t (Admit u k lane input) later past refl refl refl (ready-kept s (Admit u k lane input) (later ++ past) no_start no_drop before.ready) before
 step s t (Done u k plan reply moment) later past may no_start no_drop before = other-entry s t (Done u k plan reply moment) later past refl refl refl before.ready before
 step s t (OobDone u k plan reply moment) later past may no_start no_drop before = other-entry s t (OobDone u k plan reply moment) later past refl refl refl before.ready before
+step s t (Tick moment) later past may no_start no_drop before = other-entry s t (Tick moment) later past refl refl refl before.ready before
 step s t (Take u lines) later past may no_start no_drop before = other-entry s t (Take u lines) later past refl refl refl before.ready before
 step s t (Eof u) later past may no_start no_drop before = other-entry s t (Eof u) later past refl refl refl before.ready before
 step s t (Drop u cause) later past may no_start no_drop before = other-entry s t (Drop u cause) later past refl refl refl (ready-kept s (Drop u cause) (later ++ past) no_start no_drop before.ready) before
 
-pub overtakes : (s t : ℕ) (later past : List Entry) → AllFollow (later ++ past) → is_ready s past ≡ true → list_any (starts s) later ≡ false → list_any (drops s) later ≡ false → Overtakes s t later past
+pub overtakes : (s t : ℕ) (later past : List Entry) → AllCome (later ++ past) → is_ready s past ≡ true → list_any (starts s) later ≡ false → list_any (drops s) later ≡ false → Overtakes s t later past
 overtakes s t [] past legal ready no_start no_drop = record { ready = ready; last = refl; most = omega arith; after = λ h. absurd (omega (arith, h)) }
 overtakes s t (e ∷ later) past legal ready no_start no_drop =
     let starts_none = or_none (starts s e) (list_any (starts s) later) no_start in

@@ -8,8 +8,9 @@ use Rattle.qm_queue.specs.{Turns.turn_of as first_turn, Turns.waiting_in, declar
 use Rattle.qm_core.specs.declared.entries.{Cause.Cause, Entry.Entry}
 use Rattle.qm_core.specs.declared.entries.Entry.TheVariants.{Open, Admit, Start, Drop}
 use Rattle.qm_core.specs.declared.{inputs.Input.Input}
-use Rattle.qm_core.specs.{Legal.AllFollow, Sessions.Kept, Sessions.turn_at}
+use Rattle.qm_core.specs.{Sessions.Kept, Sessions.turn_at}
 use Rattle.qm_core.specs.Standing.{sessions_of, was_opened, is_open, is_ready, waiting_of, last_start_of, turn_item, turn_of}
+use Rattle.qm_core.proofs.Coming.{AllCome}
 use Rattle.qm_core.proofs.Pasts.{Begins, begun, differ, same, ready-open}
 use Rattle.qm_core.proofs.Records.{untouched}
 
@@ -41,7 +42,7 @@ open-turn-other s t past ne =
       or_false true = refl
       or_false false = refl
 
-pub open-turn : (s : ℕ) (past : List Entry) → AllFollow past → was_opened s past ≡ false → turn_at (Open s ∷ past) s ≡ None
+pub open-turn : (s : ℕ) (past : List Entry) → AllCome past → was_opened s past ≡ false → turn_at (Open s ∷ past) s ≡ None
 open-turn s past legal none =
     let nothing : waiting_of s past ≡ [] = ap (λ (k : Kept). k.waiting) (untouched past s legal none) in
     rw nothing (ap (λ (b : Bool). cond b (Some (turn_item (Open s ∷ past) s)) None) (and_false (is_open s (Open s ∷ past))))
@@ -70,7 +71,7 @@ start-turn-other s k t past ne = rw (not_same s t ne) refl
 abbrev pub item_after : ℕ → ℕ → TurnItem
 item_after s at = record { session = s; last_start = Some at }
 
-pub start-turn : (s k : ℕ) (past : List Entry) (b : Begins past s k) → AllFollow past →
+pub start-turn : (s k : ℕ) (past : List Entry) (b : Begins past s k) → AllCome past →
     turn_at (Start s k ∷ past) s ≡ cond (length b.others == 0) None (Some (item_after s (length past + 1)))
 start-turn s k past b legal =
     let opened = ready-open s past b.turn.ready in
