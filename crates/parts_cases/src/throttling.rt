@@ -1,11 +1,12 @@
 //! Raises and ticks of a throttle, each with the events that are sent and the deadline after it.
 
-ghost use Rattle.std.specs.Prelude.{◌≡◌, [], ◌∷◌, codes, length, map, IfOk, OnOk};
+ghost use Rattle.std.specs.Prelude.{◌≡◌, ◌<◌, [], ◌∷◌, codes, length, map, IfOk, OnOk};
+ghost use Rattle.std.specs.List.{All};
 
 use qm_base::{NoMemory, Text};
-use qm_plan::{Names, Period, PeriodList, Raised};
+use qm_plan::{Names, Period, PeriodList, Raised, RaisedList};
 use qm_read::read;
-use qm_throttle::{Sent, SentList, Throttle};
+use qm_throttle::{Sent, SentList, Throttle, Told};
 use std::alloc::Global;
 use std::test::Fail;
 
@@ -152,7 +153,9 @@ fn fresh(alloc: Global) -> Result<Throttle, NoMemory>
     Ok(Throttle::new(alloc, periods(alloc)?))
 }
 
-fn number_of(name: &str) -> Result<u32, Fail> {
+fn number_of(name: &str) -> Result<u32, Fail>
+    ensures { IfOk result (λ number. number < 4) }
+{
     match name {
         "NOTE" => Ok(0),
         "LATE" => Ok(1),
@@ -172,7 +175,9 @@ fn name_of(event: u32) -> &'static str {
 }
 
 /// The event of the words: its name, and its data.
-fn raised(alloc: Global, words: &str) -> Result<Raised, Fail> {
+fn raised(alloc: Global, words: &str) -> Result<Raised, Fail>
+    ensures { IfOk result (λ raised. raised.event < 4) }
+{
     let (name, data) = words.split_once(" ").unwrap_or((words, ""));
     let event = number_of(name)?;
     let payload = read(alloc, data.as_bytes())?;
@@ -202,12 +207,10 @@ fn raise(
     raised: Raised,
     moment: u64,
 ) -> Result<String, Fail>
-    requires { length throttle.old.periods ≡ 4 }
+    requires periods { length throttle.old.periods ≡ 4 }
+    requires event { raised.event < 4 }
     ensures { OnOk result (length throttle.new.periods ≡ 4) }
 {
-    if raised.event >= 4 {
-        return Err(Fail::from("no such event"));
-    }
     match throttle.raise(alloc, raised, moment)? {
         Some(sent) => shown(alloc, &sent),
         None => Ok(String::new(alloc)),
@@ -286,5 +289,58 @@ fn calls_send(rt: HostRuntime) -> Result<(), Fail> {
     }
     let wrong = "tick 9 | until 1\n";
     assert_eq!(rt; other_answers(rt.alloc(), wrong)?.as_str(), wrong);
+    Ok(())
+}
+
+/// The events of the lines.
+fn all_raised(alloc: Global, lines: &str) -> Result<RaisedList, Fail>
+    ensures { IfOk result (λ all. All (λ r. r.event < 4) all) }
+{
+    let mut all = RaisedList::new(alloc);
+    for line in lines.lines() {
+        all.push(raised(alloc, line)?)?;
+    }
+    Ok(all)
+}
+
+/// What was sent, and the deadline after it.
+fn told(alloc: Global, told: &Told) -> Result<String, Fail> {
+    let mut given = all_shown(alloc, told.sent.as_slice())?;
+    given.push_str(deadline(alloc, &told.throttle)?.as_str())?;
+    Ok(given)
+}
+
+/// The throttle after the events of the lines are raised at one moment.
+fn several(alloc: Global, throttle: &Throttle, lines: &str, moment: u64) -> Result<Told, Fail>
+    requires { length throttle.now.periods ≡ 4 }
+{
+    let all = all_raised(alloc, lines)?;
+    Ok(throttle.with_raised(alloc, all, moment)?)
+}
+
+/// Several events raised at once, the tick after them, and each throttle as it was before.
+#[test]
+fn calls_on_copies_send(rt: HostRuntime) -> Result<(), Fail> {
+    let fresh = fresh(rt.alloc())?;
+    let lines = "LATE {\"k\": 1}\nPLAIN {}\nLATE {\"k\": 1, \"n\": 2}\nEARLY {}";
+    let after = several(rt.alloc(), &fresh, lines, 5)?;
+    let sent = "5 LATE {\"k\": 1}; 5 PLAIN {}; 5 EARLY {}; until 12";
+    assert_eq!(rt; told(rt.alloc(), &after)?.as_str(), sent);
+    assert_eq!(rt; deadline(rt.alloc(), &fresh)?.as_str(), "no window");
+    let ticked = after.throttle.with_tick(rt.alloc(), 15)?;
+    let sent = "5 LATE {\"k\": 1, \"n\": 2}; until 25";
+    assert_eq!(rt; told(rt.alloc(), &ticked)?.as_str(), sent);
+    assert_eq!(rt; deadline(rt.alloc(), &after.throttle)?.as_str(), "until 12");
+    Ok(())
+}
+
+/// The microsecond before the first deadline, and that deadline.
+#[test]
+fn ticks_are_due(rt: HostRuntime) -> Result<(), Fail> {
+    let fresh = fresh(rt.alloc())?;
+    assert_eq!(rt; fresh.is_due(12), false);
+    let after = several(rt.alloc(), &fresh, "LATE {}\nEARLY {}", 5)?;
+    assert_eq!(rt; after.throttle.is_due(11), false);
+    assert_eq!(rt; after.throttle.is_due(12), true);
     Ok(())
 }
