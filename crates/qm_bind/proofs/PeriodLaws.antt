@@ -1,5 +1,5 @@
 -- Periods that a file gives are such as a file can give; the names of good ones are those of the events.
-use Rattle.std.proofs.Common.{◌≡◌, ◌≤◌, ◌+◌, ◌*◌, ℕ, Bool, true, false, not, ◌&&◌, ◌||◌, cond, List, [], ◌∷◌, map, Option, Some, None, refl, ap, sym, ◌∙◌, arith, bytes_eq, nat_le}
+use Rattle.std.proofs.Common.{◌≡◌, ◌≤◌, ◌*◌, ℕ, Bool, true, false, not, ◌||◌, cond, List, [], ◌∷◌, map, Option, Some, None, refl, ap, sym, ◌∙◌, arith, bytes_eq, nat_le}
 use Rattle.std.specs.Prelude.{◌==◌, ℤ, pos, negsuc, codes, IsTrue, option_and_then, unwrap_or}
 use Rattle.std.specs.List.{AllZip, list_all, list_any}
 use Rattle.std.proofs.Math.Nat.{mul-mod_left}

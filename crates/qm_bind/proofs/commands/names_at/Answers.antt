@@ -1,4 +1,4 @@
-use Rattle.std.proofs.Common.{◌≡◌, ◌∙◌, Some, option_map, ap, sym}
+use Rattle.std.proofs.Common.{◌∙◌, Some, option_map, ap, sym}
 use Rattle.qapi_types.specs.declared.parts.Parts.{Parts}
 use Rattle.qapi_types.proofs.GoodLaws.{inside}
 use Rattle.qm_bind.specs.{Faults.scope_of, Walks.file_in}
