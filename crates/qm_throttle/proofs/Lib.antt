@@ -5,8 +5,10 @@ pub mod Cuts
 pub mod Dues
 pub mod Ending
 pub mod Firsts
+pub mod Idle
 pub mod Keeping
 pub mod Orders
+pub mod Over
 pub mod Periods
 pub mod Raising
 pub mod Sorting

@@ -9,9 +9,11 @@ pub mod laws;
 pub(crate) mod openings;
 pub mod sent;
 pub mod throttle;
+pub mod told;
 pub mod window;
 pub(crate) mod windows;
 
 pub use sent::{Sent, SentList};
 pub use throttle::Throttle;
+pub use told::Told;
 pub use window::Window;

@@ -1,6 +1,7 @@
-ghost use Rattle.std.specs.Prelude.{◌≡◌, ◌<◌, List, [], length, map, IfOk, IfSome, OnErr, IsTrue, ◌↔◌};
+ghost use Rattle.std.specs.Prelude.{◌≡◌, ◌<◌, false, List, [], length, map, IfOk, IfSome, OnErr, IsTrue, ◌↔◌};
 ghost use Rattle.std.specs.Option.{option_to_list};
 ghost use Rattle.qm_json.specs.Cleanness.{are_distinct};
+ghost use Rattle.qm_throttle.specs.Over.{comes_by};
 ghost use Rattle.qm_throttle.specs.Steps.{Follows, Steps, Does, IsHeld};
 ghost use Rattle.qm_throttle.specs.Windows.{Call, Tick, event_of, raise_of, due_in, due_of};
 
@@ -74,6 +75,18 @@ impl Throttle {
         self.windows.due()
     }
 
+    /// Whether a window ends at a tick at a moment, in microseconds; else the tick sends nothing and
+    /// changes nothing. It takes no memory.
+    #[tactic(auto, using(crate::proofs::Idle::steps_idle))]
+    pub fn is_due(&self, moment: u64) -> bool
+        ensures windows { result ≡ comes_by moment (due_in self.now.windows) }
+        ensures due { (calls : List Call) → Follows self.now calls →
+            result ≡ comes_by moment (due_of self.now.periods calls) }
+        ensures idle { result ≡ false → Steps self.now (Tick moment) [] self.now }
+    {
+        comes_by(self.due(), moment)
+    }
+
     /// Raises an event at a moment, in microseconds. It is sent, and given back, where it has no
     /// period or no window of its key is open; else it is kept. An error leaves the throttle as it
     /// was.
@@ -133,6 +146,16 @@ impl Throttle {
     {
         let sent = self.windows.tick(alloc, moment)?;
         Ok(SentList::from_vec(sent))
+    }
+}
+
+/// Whether a deadline is there, and comes at or before the moment.
+fn comes_by(deadline: Option<u128>, moment: u64) -> bool
+    ensures { result ≡ comes_by moment deadline }
+{
+    match deadline {
+        Some(deadline) => deadline <= moment as u128,
+        None => false,
     }
 }
 
