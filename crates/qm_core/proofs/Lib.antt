@@ -1,13 +1,16 @@
 pub mod Admissions
 pub mod Candidates
 pub mod Coming
+pub mod Carrying
 pub mod Counting
 pub mod Counts
 pub mod DrainedLaws
+pub mod Fitting
 pub mod Holding
 pub mod Ids
 pub mod InOrder
 pub mod JournalLaws
+pub mod JobActs
 pub mod Journals
 pub mod Keeping
 pub mod Lists

@@ -1,9 +1,9 @@
 -- Which entry may come next (this project's own rule).
-use Rattle.std.specs.Prelude.{◌≡◌, ℕ, ◌+◌, ◌^◌, ◌<◌, ◌≤◌, nat_le, Bool, true, false, ◌||◌, List, length, Option, Some, None}
+use Rattle.std.specs.Prelude.{◌≡◌, ℕ, ◌+◌, ◌^◌, ◌<◌, ◌≤◌, nat_le, Bool, true, false, ◌||◌, List, length, Some, None}
 use Rattle.std.specs.List.{list_any}
 use Rattle.qm_caps.specs.{Lanes.is_in_band, Modes.bound_of, declared.mode.Lane.Lane}
 use Rattle.qm_jobs.specs.States.{is_running}
-use Rattle.qm_throttle.specs.Windows.{due_of}
+use Rattle.qm_throttle.specs.{Over.comes_by, Windows.due_of}
 use Rattle.qm_core.specs.{Drained.is_drained, Inputs.IsCleanInput, Inputs.lane_of}
 use Rattle.qm_core.specs.Standing.{sessions_of, is_open, is_ended, admitted_of, in_flight_of, mode_of, running_of, open_out_of_band_of, is_stopped, starting_of, named_of, last_moment_of}
 use Rattle.qm_core.specs.{State.raises_of, State.state_of, Transcript.has_overrun, Transcript.untaken_of, declared.TheConstants.MOST_SESSIONS, declared.entries.Cause.Cause}
@@ -74,15 +74,10 @@ pub record MayDrop (world : World) (past : List Entry) (s : ℕ) (cause : Cause)
   pub is_open : is_open s past ≡ true
   pub holds : cause_holds world past s cause ≡ true
 
--- the deadline is not after the moment
-abbrev pub has_come : ℕ → Option ℕ → Bool
-has_come moment None = false
-has_come moment (Some deadline) = nat_le deadline moment
-
 -- a window ends at the moment, or a job works
 abbrev pub is_due : World → List Entry → ℕ → Bool
 is_due world past moment =
-    has_come moment (due_of world.binding.periods (raises_of world past)) || list_any (λ job. is_running job.state) (state_of world past).table
+    comes_by moment (due_of world.binding.periods (raises_of world past)) || list_any (λ job. is_running job.state) (state_of world past).table
 
 -- there is something to do at a tick
 pub record MayTick (world : World) (past : List Entry) (moment : ℕ) : Type 0 where

@@ -1,5 +1,6 @@
 -- The state at a place of a journal, and the events that are sent there (this project's own rule).
-use Rattle.std.specs.Prelude.{ℕ, if◌then◌else◌, List, [], ◌∷◌, ◌++◌, Option, Some, None, result_ok}
+use Rattle.std.specs.Prelude.{ℕ, if◌then◌else◌, List, [], ◌∷◌, ◌++◌, Option, Some, None}
+use Rattle.std.specs.Result.{result_ok}
 use Rattle.qm_json.specs.declared.value.Json.{Json}
 use Rattle.qm_jobs.specs.Table.{work_of}
 use Rattle.qm_plan.specs.{Stores.first_of, declared.events.Raised.Raised, declared.recipes.Plan.Plan}

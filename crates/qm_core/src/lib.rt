@@ -5,7 +5,10 @@
 mod arguments;
 mod effects;
 pub mod entries;
+mod events;
+mod failing;
 pub mod inputs;
+mod job_acts;
 pub mod journal;
 mod judging;
 pub mod laws;

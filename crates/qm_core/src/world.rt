@@ -1,5 +1,5 @@
 ghost use Rattle.std.specs.Prelude.{◌≡◌, ◌<◌, ◌∷◌, [], length, map, take, IfOk};
-ghost use Rattle.qm_core.specs.Effects.{command_name_at, command_value, facts_of};
+ghost use Rattle.qm_core.specs.Effects.{command_value, facts_of};
 ghost use Rattle.qm_core.specs.Planned.{plain_recipe, recipe_at};
 
 use qapi_types::{CommandDef, Schema};
