@@ -1,9 +1,7 @@
 -- What the fields of a monitor keep, after one more entry.
-use Rattle.std.proofs.Common.{◌≡◌, ◌≢◌, ℕ, ◌+◌, ◌-◌, ◌<◌, ◌≤◌, suc, zero, Bool, true, false, ◌||◌, cond, Option, Some, None, is_some, max, ◌^◌, List, [], ◌∷◌, ◌++◌, length, map, get_or, refl, ap, sym, subst, ◌==◌, ◌∙◌, arith}
-use Rattle.std.specs.{List.list_all, Option.option_or}
+use Rattle.std.proofs.Common.{◌≡◌, ◌≢◌, ℕ, ◌+◌, ◌-◌, ◌<◌, ◌≤◌, Bool, true, false, cond, Option, Some, None, is_some, max, ◌^◌, List, [], ◌∷◌, ◌++◌, length, map, get_or, refl, ap, sym, ◌∙◌, arith}
+use Rattle.std.specs.Option.{option_or}
 use Rattle.std.proofs.lemmas.List.{length-append, length-map, map-set, map_push, get_or-map}
-use Rattle.std.proofs.lemmas.List.Folds.{list_all-append}
-use Rattle.std.proofs.lemmas.List.Recursion.{and_set}
 use Rattle.std.proofs.Math.ListN.{set}
 use Rattle.qm_base.specs.Reserving.{Reserved}
 use Rattle.qm_caps.specs.Lanes.{is_in_band}
@@ -11,14 +9,14 @@ use Rattle.qm_caps.specs.{Modes.bound_of, declared.mode.Mode.Mode, declared.mode
 use Rattle.qm_caps.specs.declared.mode.Lane.{Lane, TheVariants.InBand, TheVariants.Oob}
 use Rattle.qm_queue.specs.{Turns.IsOpened}
 use Rattle.qm_queue.specs.declared.{ring.TheConstants.PLACES, turns.TurnItem.TurnItem}
-use Rattle.qm_core.specs.declared.{TheConstants.DROP_BYTES, entries.Cause.Cause, entries.StepFault.StepFault, entries.Entry.Entry, entries.Entry.TheVariants.Admit, entries.Entry.TheVariants.Open, entries.Entry.TheVariants.Drop, inputs.Input.Input, monitor.Monitor.TheInside.Inside as Fields, requests.Request.Request, sessions.Session.Session}
+use Rattle.qm_core.specs.declared.{TheConstants.DROP_BYTES, entries.Cause.Cause, entries.StepFault.StepFault, entries.Entry.Entry, entries.Entry.TheVariants.Admit, entries.Entry.TheVariants.Open, entries.Entry.TheVariants.Drop, inputs.Input.Input, monitor.Monitor.TheInside.Inside as Fields, sessions.Place.Place}
 use Rattle.qm_core.specs.{Answers.IsAnswer, Legal.AllFollow, Legal.past_of, Order.MayCome, Order.MayFollow, State.store_of}
-use Rattle.qm_core.specs.Kept.{AreSessions, IsOpen, IsPlaced, IsRunning, IsSound, has_places, kept_of, refusal_in, view_of}
+use Rattle.qm_core.specs.Kept.{AreSessions, IsOpen, IsPlaced, IsRunning, IsSound, kept_of, refusal_in, view_of}
 use Rattle.qm_core.specs.Next.{Next, Step, View, entry_of}
-use Rattle.qm_core.specs.Sessions.{Kept, sent, session_at, told, turn_at}
+use Rattle.qm_core.specs.Sessions.{Kept, OfOpen, kept_at, session_at, turn_at}
 use Rattle.qm_core.specs.Texts.{entry_text_of}
 use Rattle.qm_core.specs.Standing.{sessions_of, was_opened, is_open, is_stopped, in_flight_of, mode_of, turn_item, waiting_of, open_count_of, last_moment_of}
-use Rattle.qm_core.proofs.{Counts.counts-drop, Journals.legal-append, Journals.past_of-append, Lists.list-at, Lists.list-changed, Lists.list-more, Pasts.both, Pasts.equal, Pasts.open_opened, Pasts.opened-within, Records.Stays, Records.open-other, Texts.text_more, Turns.admit-turn, Turns.admit-turn-other, Turns.oob-turn}
+use Rattle.qm_core.proofs.{Counts.counts-drop, Journals.legal-append, Journals.past_of-append, Lists.list-at, Lists.list-changed, Lists.list-more, Pasts.open_opened, Pasts.opened-within, Records.Stays, Records.kept-open, Records.open-other, Texts.text_more, Turns.admit-turn, Turns.admit-turn-other, Turns.oob-turn}
 
 -- the fields after an entry are what stands after it
 pub record Follows (m new : Fields) (e : Entry) : Type 0 where
@@ -54,67 +52,41 @@ after_entry m new e bytes sound may answer placed follows =
       store = rw (follows.journal, follows.world, next) follows.store;
     }
 
--- each session that was opened has its record
-pub sessions-count : (past : List Entry) (sessions : List Session) → AreSessions past sessions → length sessions ≡ length (sessions_of past)
-sessions-count past sessions kept = sym (length-map sessions kept_of) ∙ ap (λ (l : List Kept). length l) kept.kept ∙ length-map (sessions_of past) (session_at past)
+-- each session that was opened has its place
+pub sessions-count : (past : List Entry) (places : List Place) → AreSessions past places → length places ≡ length (sessions_of past)
+sessions-count past places kept = sym (length-map places kept_of) ∙ ap (λ (l : List Kept). length l) kept ∙ length-map (sessions_of past) (kept_at past)
 
 -- what is kept of a session that was opened
-pub kept-at : (past : List Entry) (s : ℕ) (sessions : List Session) (d : Session) → AllFollow past → AreSessions past sessions → was_opened s past ≡ true →
-    kept_of (get_or sessions (s - 1) d) ≡ session_at past s
-kept-at past s sessions d legal kept known =
-    let count = sessions-count past sessions kept in
+pub kept-at : (past : List Entry) (s : ℕ) (places : List Place) (d : Place) → AllFollow past → AreSessions past places → was_opened s past ≡ true →
+    kept_of (get_or places (s - 1) d) ≡ kept_at past s
+kept-at past s places d legal kept known =
+    let count = sessions-count past places kept in
     let within = opened-within s past legal known in
-    sym (get_or-map kept_of sessions (s - 1) d (kept_of d) (omega (arith, count, within.0, within.1)))
-    ∙ ap (λ (l : List Kept). get_or l (s - 1) (kept_of d)) kept.kept ∙ list-at (session_at past) past s (kept_of d) legal known
+    sym (get_or-map kept_of places (s - 1) d (kept_of d) (omega (arith, count, within.0, within.1)))
+    ∙ ap (λ (l : List Kept). get_or l (s - 1) (kept_of d)) kept ∙ list-at (kept_at past) past s (kept_of d) legal known
 
--- an entry of one session changes that session's record alone
-pub sessions-changed : (past : List Entry) (e : Entry) (s : ℕ) (sessions : List Session) (new : Session) → AllFollow past → AreSessions past sessions → was_opened s past ≡ true →
-    sessions_of (e ∷ past) ≡ sessions_of past → kept_of new ≡ session_at (e ∷ past) s → has_places new ≡ true → ((t : ℕ) → t ≢ s → Stays t e past) →
-    AreSessions (e ∷ past) (set sessions (s - 1) new)
-sessions-changed past e s sessions new legal kept opened known here places others = record {
-  kept =
-      map-set kept_of sessions (s - 1) new ∙ ap (λ (k : Kept). set (map kept_of sessions) (s - 1) k) here
-      ∙ ap (λ (l : List Kept). set l (s - 1) (session_at (e ∷ past) s)) kept.kept
-      ∙ list-changed (session_at past) (session_at (e ∷ past)) past s legal opened others
-      ∙ ap (λ (l : List ℕ). map (session_at (e ∷ past)) l) (sym known);
-  places = and_set (list_all has_places) has_places refl (λ x xs. refl) sessions (s - 1) new places kept.places;
-}
+-- and of one that is open
+pub open-at : (past : List Entry) (s : ℕ) (places : List Place) (place d : Place) → AllFollow past → AreSessions past places → IsOpen past s →
+    place ≡ get_or places (s - 1) d → kept_of place ≡ OfOpen (session_at past s)
+open-at past s places place d legal kept opened is = ap kept_of is ∙ kept-at past s places d legal kept opened.known ∙ kept-open s past opened.stays
 
-all-at : {X : Type 0} (p : X → Bool) (xs : List X) (i : ℕ) (d : X) → i < length xs → list_all p xs ≡ true → p (get_or xs i d) ≡ true
-all-at p [] i d low all = absurd (omega (arith, low))
-all-at p (x ∷ xs) zero d low all = (both (p x) (list_all p xs) all).0
-all-at p (x ∷ xs) (suc i) d low all = all-at p xs i d (omega (arith, low)) (both (p x) (list_all p xs) all).1
-
--- and it has its places
-pub places-at : (past : List Entry) (s : ℕ) (sessions : List Session) (d : Session) → AllFollow past → AreSessions past sessions → was_opened s past ≡ true → has_places (get_or sessions (s - 1) d) ≡ true
-places-at past s sessions d legal kept known =
-    let count = sessions-count past sessions kept in
-    let within = opened-within s past legal known in
-    all-at has_places sessions (s - 1) d (omega (arith, count, within.0, within.1)) kept.places
+-- an entry of one session changes that session's place alone
+pub sessions-changed : (past : List Entry) (e : Entry) (s : ℕ) (places : List Place) (new : Place) → AllFollow past → AreSessions past places → was_opened s past ≡ true →
+    sessions_of (e ∷ past) ≡ sessions_of past → kept_of new ≡ kept_at (e ∷ past) s → ((t : ℕ) → t ≢ s → Stays t e past) →
+    AreSessions (e ∷ past) (set places (s - 1) new)
+sessions-changed past e s places new legal kept opened known here others =
+    map-set kept_of places (s - 1) new ∙ ap (λ (k : Kept). set (map kept_of places) (s - 1) k) here
+    ∙ ap (λ (l : List Kept). set l (s - 1) (kept_at (e ∷ past) s)) kept
+    ∙ list-changed (kept_at past) (kept_at (e ∷ past)) past s legal opened others
+    ∙ ap (λ (l : List ℕ). map (kept_at (e ∷ past)) l) (sym known)
 
 -- one more session is opened
-pub sessions-more : (past : List Entry) (s : ℕ) (sessions : List Session) (new : Session) → AllFollow past → AreSessions past sessions → s ≡ length (sessions_of past) + 1 →
-    kept_of new ≡ session_at (Open s ∷ past) s → has_places new ≡ true → AreSessions (Open s ∷ past) (sessions ++ new ∷ [])
-sessions-more past s sessions new legal kept next here places = record {
-  kept =
-      map_push kept_of sessions new ∙ ap (λ (k : Kept). map kept_of sessions ++ k ∷ []) here
-      ∙ ap (λ (l : List Kept). l ++ session_at (Open s ∷ past) s ∷ []) kept.kept
-      ∙ list-more (session_at past) (session_at (Open s ∷ past)) past s legal next (λ t. open-other s t past);
-  places = list_all-append has_places sessions (new ∷ []) ∙ rw (kept.places, places) refl;
-}
-
-pub has-places : (session : Session) → session.waiting.places ≡ PLACES → has_places session ≡ true
-has-places session places = rw places (either session.dropped) where
-  either : (b : Bool) → (b || true) ≡ true
-  either true = refl
-  either false = refl
-
-pub places-kept : (old new : Session) → new.dropped ≡ old.dropped → new.waiting.places ≡ old.waiting.places → has_places old ≡ true → has_places new ≡ true
-places-kept old new dropped places h = rw (dropped, places) h
-
--- a session that is not dropped has them all
-pub all-places : (session : Session) → session.dropped ≡ false → has_places session ≡ true → session.waiting.places ≡ PLACES
-all-places session stays h = equal session.waiting.places PLACES (subst (λ (b : Bool). (b || (session.waiting.places == PLACES)) ≡ true) stays h)
+pub sessions-more : (past : List Entry) (s : ℕ) (places : List Place) (new : Place) → AllFollow past → AreSessions past places → s ≡ length (sessions_of past) + 1 →
+    kept_of new ≡ kept_at (Open s ∷ past) s → AreSessions (Open s ∷ past) (places ++ new ∷ [])
+sessions-more past s places new legal kept next here =
+    map_push kept_of places new ∙ ap (λ (k : Kept). map kept_of places ++ k ∷ []) here
+    ∙ ap (λ (l : List Kept). l ++ kept_at (Open s ∷ past) s ∷ []) kept
+    ∙ list-more (kept_at past) (kept_at (Open s ∷ past)) past s legal next (λ t. open-other s t past)
 
 -- each session that was opened has a place among the turns
 pub turns-opened : (past : List Entry) (turns : List (Option TurnItem)) (s : ℕ) → AllFollow past → turns ≡ map (turn_at past) (sessions_of past) → was_opened s past ≡ true → IsOpened s turns
@@ -169,8 +141,8 @@ few-bound Command = omega arith
 few-bound CommandOob = omega arith
 
 -- a request that may wait has a place
-pub few-places : (past : List Entry) (s : ℕ) (waiting : List Request) (places : ℕ) → waiting ≡ waiting_of s past → places ≡ PLACES → in_flight_of s past < bound_of (mode_of s past) → length waiting < places
-few-places past s waiting places kept all below = (let few = few-bound (mode_of s past) in let count : length waiting ≡ length (waiting_of s past) = ap (λ (l : List Request). length l) kept in omega (arith, count, all, below, few))
+pub few-places : (past : List Entry) (s : ℕ) → in_flight_of s past < bound_of (mode_of s past) → length (waiting_of s past) < PLACES
+few-places past s below = (let few = few-bound (mode_of s past) in omega (arith, below, few))
 
 -- a refusal that comes before that of a full journal is the refusal
 refused_before : (first : Option StepFault) (test : Bool) (own : StepFault) (full fault : Option StepFault) → fault ≡ option_or first (cond test None (Some own)) → is_some fault ≡ true →
@@ -194,13 +166,6 @@ next-refused m step first test own full None is told some = absurd cc
 pub not-refused : (test : Bool) (own : StepFault) (full : Option StepFault) → None ≡ cond test None (Some own) → None ≡ full → None ≡ cond test full (Some own)
 not-refused true own full told room = room
 not-refused false own full told room = absurd cc
-
--- a session that is told a line is dropped as before
-pub told-dropped : (kept : Kept) (line : List ℕ) → (told kept line).dropped ≡ kept.dropped
-told-dropped kept line = either kept.dropped where
-  either : (b : Bool) → (cond b kept (sent kept line)).dropped ≡ kept.dropped
-  either true = refl
-  either false = refl
 
 -- a moment that is no earlier than another may come
 pub may-come : (past : List Entry) (moment kept last : ℕ) → kept ≡ last_moment_of past → last ≡ max moment kept → last < 2 ^ 64 → MayCome past last

@@ -278,6 +278,9 @@ not_true : (b : Bool) → not b ≡ true → b ≡ false
 not_true true h = absurd cc
 not_true false h = refl
 
+pub ready-stays : (s : ℕ) (past : List Entry) → is_ready s past ≡ true → is_dropped s past ≡ false
+ready-stays s past h = not_true (is_dropped s past) (both (was_opened s past) (not (is_dropped s past)) (ready-open s past h)).1
+
 pub has-turn : (past : List Entry) (s : ℕ) → turn_of past ≡ Some s → HasTurn past s
 has-turn past s h =
     let found = found-passes (λ t. is_ready t past) (is_first past) (filter (λ t. is_ready t past) (sessions_of past)) s (pass-all (λ t. is_ready t past) (sessions_of past)) (sym (turn-is past) ∙ h) in

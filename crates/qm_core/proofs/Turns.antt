@@ -8,11 +8,11 @@ use Rattle.qm_queue.specs.{Turns.turn_of as first_turn, Turns.waiting_in, declar
 use Rattle.qm_core.specs.declared.entries.{Cause.Cause, Entry.Entry}
 use Rattle.qm_core.specs.declared.entries.Entry.TheVariants.{Open, Admit, Start, Drop}
 use Rattle.qm_core.specs.declared.{inputs.Input.Input}
-use Rattle.qm_core.specs.{Sessions.Kept, Sessions.turn_at}
+use Rattle.qm_core.specs.{Sessions.fresh, Sessions.turn_at, declared.sessions.Session.Session}
 use Rattle.qm_core.specs.Standing.{sessions_of, was_opened, is_open, is_ready, waiting_of, last_start_of, turn_item, turn_of}
 use Rattle.qm_core.proofs.Coming.{AllCome}
 use Rattle.qm_core.proofs.Pasts.{Begins, begun, differ, same, ready-open}
-use Rattle.qm_core.proofs.Records.{untouched}
+use Rattle.qm_core.proofs.Records.{untouched, was-open}
 
 -- the queue's first item is of the session whose turn it is
 in_queue : (r : ℕ → Bool) (f : ℕ → TurnItem) (xs : List ℕ) → flat_map option_to_list (map (λ s. cond (r s) (Some (f s)) None) xs) ≡ map f (filter r xs)
@@ -44,7 +44,7 @@ open-turn-other s t past ne =
 
 pub open-turn : (s : ℕ) (past : List Entry) → AllCome past → was_opened s past ≡ false → turn_at (Open s ∷ past) s ≡ None
 open-turn s past legal none =
-    let nothing : waiting_of s past ≡ [] = ap (λ (k : Kept). k.waiting) (untouched past s legal none) in
+    let nothing : waiting_of s past ≡ [] = ap (λ (x : Session). x.waiting) (was-open s past fresh (untouched past s legal none)).state in
     rw nothing (ap (λ (b : Bool). cond b (Some (turn_item (Open s ∷ past) s)) None) (and_false (is_open s (Open s ∷ past))))
 
 -- a request is admitted

@@ -1,37 +1,22 @@
 -- What the fields of a monitor keep of its journal (this project's own rule). This serves private functions.
-use Rattle.std.specs.Prelude.{◌≡◌, ℕ, ◌+◌, ◌≤◌, ◌<◌, ◌==◌, Bool, true, false, ◌||◌, List, ◌∷◌, length, map, Option, IfSome, Result, IfOk}
-use Rattle.std.specs.{List.list_all, Result.result_err}
-use Rattle.qm_queue.specs.declared.ring.TheConstants.{PLACES}
+use Rattle.std.specs.Prelude.{◌≡◌, ℕ, ◌+◌, ◌≤◌, ◌<◌, Bool, true, false, List, ◌∷◌, length, map, Option, IfSome, Result, IfOk}
+use Rattle.std.specs.{Result.result_err}
 use Rattle.qm_core.specs.{Legal.past_of, Legal.IsLegal, Legal.HasRoom, Legal.IsWithin, Legal.is_within, Next.View, Next.Step, Next.full_refusal, Next.refusal_of}
 use Rattle.qm_core.specs.Standing.{sessions_of, was_opened, is_dropped, is_stopped, open_count_of, running_of, last_moment_of}
-use Rattle.qm_core.specs.{Planned.command_in, Sessions.Kept, Sessions.session_at, Sessions.turn_at, State.state_of, Texts.entry_text_of, Texts.text_of}
-use Rattle.qm_core.specs.declared.{TheConstants.MOST_ENTRIES, TheConstants.MOST_TEXT, entries.Entry.Entry, entries.StepFault.StepFault, monitor.Monitor.TheInside.Inside as Fields, requests.Request.Request, sessions.Session.Session, world.World.World}
+use Rattle.qm_core.specs.{Planned.command_in, Sessions.Kept, Sessions.OfOpen, Sessions.OfClosed, Sessions.kept_at, Sessions.turn_at, State.state_of, Texts.entry_text_of, Texts.text_of}
+use Rattle.qm_core.specs.declared.{TheConstants.MOST_ENTRIES, TheConstants.MOST_TEXT, entries.Entry.Entry, entries.StepFault.StepFault, monitor.Monitor.TheInside.Inside as Fields, requests.Request.Request, sessions.Place.Place, sessions.Place.TheVariants.Open, sessions.Place.TheVariants.Closed, world.World.World}
 
 abbrev pub view_of : Fields → View
 view_of m = record { world = m.world; limits = m.limits; journal = m.journal.items }
 
--- what a session's fields keep
-abbrev pub kept_of : Session → Kept
-kept_of session = record {
-  dropped = session.dropped;
-  ended = session.ended;
-  admitted = session.admitted;
-  mode = session.mode;
-  waiting = session.waiting.items;
-  open_out_of_band = session.open_out_of_band;
-  last_start = session.last_start;
-  outbox = session.outbox;
-  overrun = session.overrun;
-}
-
--- a session that is not dropped has its places
-abbrev pub has_places : Session → Bool
-has_places session = session.dropped || session.waiting.places == PLACES
+-- what a session's place keeps
+abbrev pub kept_of : Place → Kept
+kept_of (Open session) = OfOpen session.value
+kept_of (Closed closed) = OfClosed closed
 
 -- what is kept of the sessions, in the order of opening
-pub record AreSessions (past : List Entry) (sessions : List Session) : Type 0 where
-  pub kept : map kept_of sessions ≡ map (session_at past) (sessions_of past)
-  pub places : list_all has_places sessions ≡ true
+abbrev pub AreSessions : World → List Entry → List Place → Type 0
+AreSessions world past places = map kept_of places ≡ map (kept_at world past) (sessions_of past)
 
 -- what is kept of the running request, and of its command that takes effect
 pub record IsRunning (world : World) (past : List Entry) (running : Option Request) (kept : Option ℕ) : Type 0 where
@@ -46,7 +31,7 @@ pub record IsSound (m : Fields) : Type 0 where
   pub places : m.limits.entries ≤ m.journal.places
   pub few : m.limits.entries ≤ MOST_ENTRIES
   pub short : m.limits.text ≤ MOST_TEXT
-  pub sessions : AreSessions (past_of m.journal.items) m.sessions.items
+  pub sessions : AreSessions m.world (past_of m.journal.items) m.sessions.items
   pub turns : m.turns ≡ map (turn_at (past_of m.journal.items)) (sessions_of (past_of m.journal.items))
   pub open_count : m.open_count ≡ open_count_of (past_of m.journal.items)
   pub running : IsRunning m.world (past_of m.journal.items) m.running m.command

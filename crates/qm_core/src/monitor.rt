@@ -1,11 +1,11 @@
-ghost use Rattle.std.specs.Prelude.{◌≡◌, ◌≤◌, ◌<◌, [], length, false, true, IfOk, IfSome, OnOk};
+ghost use Rattle.std.specs.Prelude.{◌≡◌, ◌≤◌, ◌<◌, [], length, false, true, not, is_some, None, IfOk, IfSome, OnOk};
 ghost use Rattle.std.specs.Result.{result_err};
 ghost use Rattle.qm_core.specs.Legal.{HasRoom, IsLegal, past_of};
 ghost use Rattle.qm_core.specs.Next.{closed_refusal};
 ghost use Rattle.qm_core.specs.Planned.{planned_of};
 ghost use Rattle.qm_core.specs.State.{store_of};
 ghost use Rattle.qm_core.specs.Worlds.{IsReady};
-ghost use Rattle.qm_core.specs.Sessions.{fresh, session_at};
+ghost use Rattle.qm_core.specs.Sessions.{OfOpen, fresh, kept_at, open_in, rest_of, session_at};
 ghost use Rattle.qm_core.specs.Standing.{sessions_of, was_opened, admitted_of, is_dropped, is_stopped, in_flight_of, running_of, open_out_of_band_of, named_of};
 ghost use Rattle.qm_core.specs.Transcript.{has_overrun};
 
@@ -13,7 +13,7 @@ use crate::entries::StepFault;
 use crate::journal::{EntryList, Journal};
 use crate::plans::{call_plan, command};
 use crate::requests::{Request, RequestName};
-use crate::sessions::Session;
+use crate::sessions::{ClosedSession, Place, Session};
 use crate::world::{Setting, World};
 use qm_base::NoMemory;
 use qm_bind::Binding;
@@ -52,7 +52,7 @@ pub struct Monitor {
     limits: Limits,
     journal: Journal,
     /// The sessions in the order of opening.
-    sessions: Vec<Session>,
+    sessions: Vec<Place>,
     /// Of each session the item of its turn, while a request of it waits.
     turns: TurnQueue,
     /// How many sessions are open.
@@ -174,31 +174,54 @@ impl Monitor {
     pub fn is_known(&self, session: u32) -> bool
         ensures known { result ≡ was_opened session (past_of self.now.journal) }
         ensures counted { result ≡ true → (0 < session) × (session ≤ length (sessions_of (past_of self.now.journal))) }
-        ensures untouched { result ≡ false → session_at (past_of self.now.journal) session ≡ fresh }
+        ensures untouched { result ≡ false
+            → kept_at (past_of self.now.journal) session ≡ OfOpen fresh }
     {
         session > 0 && session as usize <= self.sessions.len()
     }
 
     /// What is kept of a session that was opened.
-    fn session(&self, session: u32) -> &Session
+    fn place(&self, session: u32) -> &Place
         requires { was_opened session (past_of self.now.journal) ≡ true }
-        ensures { kept_of result.now ≡ session_at (past_of self.now.journal) session }
+        ensures kept { kept_of result.now ≡ kept_at (past_of self.now.journal) session }
+        ensures closed { is_some (open_in (kept_of result.now)) ≡ false
+            → open_out_of_band_of session (past_of self.now.journal) ≡ None }
     {
         &self.sessions[session as usize - 1]
+    }
+
+    /// A session that was opened, while it is open.
+    fn session(&self, session: u32) -> Option<&Session>
+        requires { was_opened session (past_of self.now.journal) ≡ true }
+        ensures some { is_some result ≡ not (is_dropped session (past_of self.now.journal)) }
+        ensures session { IfSome result (λ state.
+            state.now ≡ session_at (past_of self.now.journal) session) }
+        ensures closed { is_some result ≡ false
+            → open_out_of_band_of session (past_of self.now.journal) ≡ None }
+    {
+        self.place(session).open()
+    }
+
+    /// What stays of a session that was opened once it is closed.
+    fn rest(&self, session: u32) -> ClosedSession
+        requires { was_opened session (past_of self.now.journal) ≡ true }
+        ensures { result ≡ rest_of (session_at (past_of self.now.journal) session) }
+    {
+        self.place(session).rest()
     }
 
     /// Whether the session was closed.
     pub fn is_closed(&self, session: u32) -> bool
         ensures { result ≡ is_dropped session (past_of self.now.journal) }
     {
-        self.is_known(session) && self.session(session).dropped
+        self.is_known(session) && self.session(session).is_none()
     }
 
     /// Whether a line of the session did not fit into its outbox, so that it gets no line any more.
     pub fn is_overrun(&self, session: u32) -> bool
         ensures { result ≡ has_overrun session (past_of self.now.journal) }
     {
-        self.is_known(session) && self.session(session).overrun
+        self.is_known(session) && self.rest(session).overrun
     }
 
     /// Whether a command has stopped the monitor.
@@ -213,7 +236,10 @@ impl Monitor {
         requires { was_opened session (past_of self.now.journal) ≡ true }
         ensures { result ≡ named_of (open_out_of_band_of session (past_of self.now.journal)) }
     {
-        name_of(&self.session(session).open_out_of_band)
+        match self.session(session) {
+            Some(state) => name_of(&state.open_out_of_band),
+            None => None,
+        }
     }
 
     /// The plan of that request; none where there is no such request, or the verdict on it is a
@@ -223,7 +249,10 @@ impl Monitor {
         ensures { let request = open_out_of_band_of session (past_of self.now.journal) in
             IfOk result (λ plan. plan ≡ planned_of self.now.world request) }
     {
-        let Some(request) = &self.session(session).open_out_of_band else {
+        let Some(state) = self.session(session) else {
+            return Ok(None);
+        };
+        let Some(request) = &state.open_out_of_band else {
             return Ok(None);
         };
         match command(self.world.world(), request) {
@@ -240,11 +269,11 @@ impl Monitor {
         requires { was_opened session (past_of self.now.journal) ≡ true }
         ensures { result ≡ admitted_of session (past_of self.now.journal) }
     {
-        self.session(session).admitted
+        self.rest(session).admitted
     }
 
     fn in_flight(&self, session: u32, state: &Session) -> u32
-        requires { kept_of state.now ≡ session_at (past_of self.now.journal) session }
+        requires { state.now ≡ session_at (past_of self.now.journal) session }
         ensures { result ≡ in_flight_of session (past_of self.now.journal) }
     {
         let runs = matches!(&self.running, Some(request) if request.session == session);
@@ -253,17 +282,16 @@ impl Monitor {
 
     fn open_session(&self, session: u32) -> Result<&Session, StepFault>
         ensures state { IfOk result (λ state.
-            kept_of state.now ≡ session_at (past_of self.now.journal) session) }
+            state.now ≡ session_at (past_of self.now.journal) session) }
         ensures open { OnOk result (IsOpen (past_of self.now.journal) session) }
         ensures fault { result_err result ≡ closed_refusal session (past_of self.now.journal) }
     {
         if !self.is_known(session) {
             return Err(StepFault::NoSession);
         }
-        let state = self.session(session);
-        if state.dropped {
-            return Err(StepFault::Closed);
+        match self.session(session) {
+            Some(state) => Ok(state),
+            None => Err(StepFault::Closed),
         }
-        Ok(state)
     }
 }

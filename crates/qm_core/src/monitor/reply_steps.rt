@@ -3,7 +3,7 @@ ghost use Rattle.std.specs.Result.{result_err};
 ghost use Rattle.qm_json.specs.Printing.{printed};
 ghost use Rattle.qm_caps.specs.Modes.{is_negotiating};
 ghost use Rattle.qm_core.specs.Kept.{kept_of};
-ghost use Rattle.qm_core.specs.Sessions.{told};
+ghost use Rattle.qm_core.specs.Sessions.{told_of, told_out_of_band, while_open};
 ghost use Rattle.qm_core.specs.Legal.{past_of};
 ghost use Rattle.qm_core.specs.Next.{Next, Finish, FinishOob, is_open_out_of_band, is_running, names, session_refusal};
 ghost use Rattle.qm_plan.specs.Stores.{committed};
@@ -18,7 +18,7 @@ use crate::monitor::Monitor;
 use crate::plans::command;
 use crate::replies::{self, Reply};
 use crate::requests::Request;
-use crate::sessions::Session;
+use crate::sessions::{Place, Session};
 use crate::world::Setting;
 use qm_base::{NoMemory, Shared, Text};
 use qm_json::Json;
@@ -77,17 +77,54 @@ fn answered(
     negotiates: bool,
     plan: &Option<Plan>,
 ) -> Result<(), NoMemory>
-    ensures ok { OnOk result (kept_of state.new ≡ record (told (kept_of state.old) line) {
-      mode = if is_negotiating state.old.mode && negotiates then mode_by plan.now else state.old.mode;
-    }) }
-    ensures places { state.new.waiting ≡ state.old.waiting }
+    ensures ok { OnOk result (state.new ≡ told_of plan.now negotiates line state.old) }
     ensures err { OnErr result (state.new ≡ state.old) }
 {
-    state.tell(line)?;
+    state.send(line)?;
     if state.mode.is_negotiating() && negotiates {
         state.mode = replies::mode(plan);
     }
     Ok(())
+}
+
+/// The same of a session while it is open.
+fn tell(
+    place: &mut Place,
+    line: Shared<Text>,
+    negotiates: bool,
+    plan: &Option<Plan>,
+) -> Result<(), NoMemory>
+    ensures ok { OnOk result (kept_of place.new
+        ≡ while_open (told_of plan.now negotiates line) (kept_of place.old)) }
+    ensures err { OnErr result (place.new ≡ place.old) }
+{
+    match place {
+        Place::Open(state) => answered(state, line, negotiates, plan),
+        Place::Closed(_) => Ok(()),
+    }
+}
+
+/// Tells a session the reply to its request that is open out of band. An error leaves the session
+/// as it was.
+fn answered_out_of_band(state: &mut Session, line: Shared<Text>) -> Result<(), NoMemory>
+    ensures ok { OnOk result (state.new ≡ told_out_of_band line state.old) }
+    ensures err { OnErr result (state.new ≡ state.old) }
+{
+    state.send(line)?;
+    state.open_out_of_band = None;
+    Ok(())
+}
+
+/// The same of a session while it is open.
+fn tell_out_of_band(place: &mut Place, line: Shared<Text>) -> Result<(), NoMemory>
+    ensures ok { OnOk result (kept_of place.new
+        ≡ while_open (told_out_of_band line) (kept_of place.old)) }
+    ensures err { OnErr result (place.new ≡ place.old) }
+{
+    match place {
+        Place::Open(state) => answered_out_of_band(state, line),
+        Place::Closed(_) => Ok(()),
+    }
 }
 
 /// The request, if it has this session and this number.
@@ -155,8 +192,8 @@ impl Monitor {
         )?;
         let moment = moment.max(self.last_moment);
         let bytes = self.finish_room(session, number, &plan, &reply, moment)?;
-        let state = &mut self.sessions[session as usize - 1];
-        answered(state, line, negotiates, &plan)?;
+        let place = &mut self.sessions[session as usize - 1];
+        tell(place, line, negotiates, &plan)?;
         self.stopped = stops | self.stopped;
         self.store.commit(changes);
         self.running = None;
@@ -221,9 +258,8 @@ impl Monitor {
         } = answer_to(alloc, &self.world, &self.store, request, command, &plan)?;
         let moment = moment.max(self.last_moment);
         let bytes = self.oob_room(session, number, &plan, &reply, moment)?;
-        let state = &mut self.sessions[session as usize - 1];
-        state.send(line)?;
-        state.open_out_of_band = None;
+        let place = &mut self.sessions[session as usize - 1];
+        tell_out_of_band(place, line)?;
         self.store.commit(changes);
         self.last_moment = moment;
         self.journal.put(

@@ -1,9 +1,11 @@
-ghost use Rattle.std.specs.Prelude.{◌≡◌, ◌+◌, ◌-◌, ◌<◌, ◌^◌, ◌==◌, [], ◌∷◌, ◌++◌, drop, length, slice_get, slice_set as set, if◌then◌else◌, Some, None, true, false, option_map, IfSome, IfOk, IsSome, OnOk, OnErr};
+ghost use Rattle.std.specs.Prelude.{◌≡◌, ◌+◌, ◌-◌, ◌<◌, ◌^◌, ◌==◌, [], ◌∷◌, ◌++◌, drop, length, slice_get, slice_set as set, if◌then◌else◌, Some, None, true, false, option_map, IfSome, IfOk, IsSome, IsSomeAnd, OnOk, OnErr};
 ghost use Rattle.std.specs.Result.{result_err};
 ghost use Rattle.qm_caps.specs.Lanes.{is_in_band};
 ghost use Rattle.qm_caps.specs.Modes.{bound_of};
 ghost use Rattle.qm_core.specs.Inputs.{document_of, lane_of};
 ghost use Rattle.qm_core.specs.Kept.{kept_of};
+ghost use Rattle.qm_core.specs.Sessions.{open_in, while_open, with_request};
+ghost use Rattle.qm_queue.specs.declared.ring.TheConstants.{PLACES};
 ghost use Rattle.qm_queue.specs.Turns.{IsOpened};
 ghost use Rattle.qm_core.specs.Legal.{past_of};
 ghost use Rattle.qm_core.specs.Next.{Next, Admit, Start, start_entry};
@@ -17,7 +19,7 @@ use crate::monitor::Monitor;
 use crate::offers::{Offer, Owners};
 use crate::plans::{call, command};
 use crate::requests::{Admitted, Begun, Request, RequestName, Started, Waiting};
-use crate::sessions::Session;
+use crate::sessions::{Place, Session};
 use crate::world::World;
 use qm_base::Shared;
 use qm_caps::{Lane, Mode, bound, classify};
@@ -34,9 +36,11 @@ fn lane(mode: Mode, input: &Input) -> Lane
     }
 }
 
-/// The lane of a request to be admitted, and the bytes of its entry.
+/// What a request to be admitted is given, and the bytes of its entry.
 #[derive(Clone, Copy)]
 struct Admission {
+    number: u64,
+    mode: Mode,
     lane: Lane,
     bytes: u64,
 }
@@ -51,15 +55,10 @@ fn take_in(
     lane: Lane,
     document: Option<Shared<Json>>,
 ) -> Option<Call>
-    requires place { is_in_band lane ≡ true → length state.old.waiting.items < state.old.waiting.places }
+    requires place { is_in_band lane ≡ true → length state.old.waiting < PLACES }
     requires opened { IsOpened request.session turns.old }
     requires document { document ≡ document_of request.input }
-    ensures kept { kept_of state.new ≡ record (kept_of state.old) {
-      admitted = request.number;
-      waiting = if is_in_band lane then state.old.waiting.items ++ request ∷ [] else state.old.waiting.items;
-      open_out_of_band = if is_in_band lane then state.old.open_out_of_band else Some request;
-    } }
-    ensures places { state.new.waiting.places ≡ state.old.waiting.places }
+    ensures state { state.new ≡ with_request lane request state.old }
     ensures turns { turns.new ≡ (if is_in_band lane
         then set turns.old (request.session - 1) (Some record { session = request.session; last_start = state.old.last_start })
         else turns.old) }
@@ -81,20 +80,51 @@ fn take_in(
     call
 }
 
-/// Takes the oldest waiting request of a session out, and puts the session behind those that wait
-/// too. It takes no memory.
-fn begin(state: &mut Session, turns: &mut TurnQueue, session: u32, at: u64) -> Begun
-    requires some { 0 < length state.old.waiting.items }
-    requires opened { IsOpened session turns.old }
-    ensures request { Some result.request ≡ slice_get state.old.waiting.items 0 }
-    ensures document { result.document ≡ document_of result.request.input }
-    ensures kept { kept_of state.new
-        ≡ record (kept_of state.old) { waiting = drop 1 state.old.waiting.items; last_start = Some at } }
-    ensures places { state.new.waiting.places ≡ state.old.waiting.places }
-    ensures turns { turns.new ≡ set turns.old (session - 1) (if length (drop 1 state.old.waiting.items) == 0
-        then None
-        else Some record { session = session; last_start = Some at }) }
+/// The same at the place of an open session.
+fn take_into(
+    world: &World,
+    place: &mut Place,
+    turns: &mut TurnQueue,
+    request: Request,
+    lane: Lane,
+    document: Option<Shared<Json>>,
+) -> Option<Call>
+    requires place { IsSomeAnd (open_in (kept_of place.old)) (λ state.
+        is_in_band lane ≡ true → length state.waiting < PLACES) }
+    requires opened { IsOpened request.session turns.old }
+    requires document { document ≡ document_of request.input }
+    ensures kept { kept_of place.new ≡ while_open (with_request lane request) (kept_of place.old) }
+    ensures turns { IfSome (open_in (kept_of place.old)) (λ state. turns.new ≡ (if is_in_band lane
+        then set turns.old (request.session - 1) (Some record { session = request.session; last_start = state.last_start })
+        else turns.old)) }
+    ensures call { result ≡ (if is_in_band lane then None else call_of world.now request) }
 {
+    let Place::Open(state) = place else {
+        unreachable!();
+    };
+    take_in(world, state, turns, request, lane, document)
+}
+
+/// Takes the oldest waiting request of an open session out, and puts the session behind those that
+/// wait too. It takes no memory.
+fn begin(place: &mut Place, turns: &mut TurnQueue, session: u32, at: u64) -> Begun
+    requires some { IsSomeAnd (open_in (kept_of place.old)) (λ state. 0 < length state.waiting) }
+    requires opened { IsOpened session turns.old }
+    ensures request { IfSome (open_in (kept_of place.old)) (λ state.
+        Some result.request ≡ slice_get state.waiting 0) }
+    ensures document { result.document ≡ document_of result.request.input }
+    ensures kept { kept_of place.new ≡ while_open (λ state. record state {
+      waiting = drop 1 state.waiting;
+      last_start = Some at;
+    }) (kept_of place.old) }
+    ensures turns { IfSome (open_in (kept_of place.old)) (λ state.
+        turns.new ≡ set turns.old (session - 1) (if length (drop 1 state.waiting) == 0
+        then None
+        else Some record { session = session; last_start = Some at })) }
+{
+    let Place::Open(state) = place else {
+        unreachable!();
+    };
     let Some(begun) = state.waiting.take() else {
         unreachable!();
     };
@@ -132,10 +162,12 @@ impl Monitor {
             admission.lane ≡ lane_of (mode_of session (past_of self.now.journal)) input.now) }
         ensures below { let past = past_of self.now.journal in IfOk result (λ admission.
             is_in_band admission.lane ≡ true → in_flight_of session past < bound_of (mode_of session past)) }
-        ensures number { OnOk result (admitted_of session (past_of self.now.journal) + 1 < 2 ^ 64) }
-        ensures placed { let number = admitted_of session (past_of self.now.journal) + 1 in
-            IfOk result (λ admission. IsPlaced self.now
-            (entry.Admit session number admission.lane input.now) admission.bytes) }
+        ensures number { let past = past_of self.now.journal in
+            IfOk result (λ admission. admission.number ≡ admitted_of session past + 1) }
+        ensures mode { let past = past_of self.now.journal in
+            IfOk result (λ admission. admission.mode ≡ mode_of session past) }
+        ensures placed { IfOk result (λ admission. IsPlaced self.now
+            (entry.Admit session admission.number admission.lane input.now) admission.bytes) }
     {
         let state = self.open_session(session)?;
         if state.ended {
@@ -151,8 +183,14 @@ impl Monitor {
         if lane.is_in_band() && self.in_flight(session, state) >= bound(state.mode) {
             return Err(StepFault::Busy);
         }
-        let bytes = self.admit_room(session, state.admitted + 1, lane, input)?;
-        Ok(Admission { lane, bytes })
+        let number = state.admitted + 1;
+        let bytes = self.admit_room(session, number, lane, input)?;
+        Ok(Admission {
+            number,
+            mode: state.mode,
+            lane,
+            bytes,
+        })
     }
 
     /// Admits the input of an offer, in the lane that is its own, and answers its number. It takes
@@ -173,23 +211,27 @@ impl Monitor {
         ensures spent { OnOk result (offer.new ≡ None) }
         ensures kept { OnErr result (offer.new ≡ offer.old) }
     {
-        let Admission { lane, bytes } = self.may_admit(session, offer.kept())?;
+        let Admission {
+            number,
+            mode,
+            lane,
+            bytes,
+        } = self.may_admit(session, offer.kept())?;
         let Owners {
             kept,
             waiting,
             document,
         } = offer.spend();
-        let state = &mut self.sessions[session as usize - 1];
-        let number = state.admitted + 1;
         let request = Request {
             session,
             number,
-            mode: state.mode,
+            mode,
             input: waiting,
         };
-        let call = take_in(
+        let place = &mut self.sessions[session as usize - 1];
+        let call = take_into(
             self.world.world(),
-            state,
+            place,
             &mut self.turns,
             request,
             lane,
@@ -212,7 +254,7 @@ impl Monitor {
         ensures { result ≡ named_of (starting_of (past_of self.now.journal)) }
     {
         match self.turns.next() {
-            Some(session) => self.sessions[session as usize - 1].waiting.first(),
+            Some(session) => self.sessions[session as usize - 1].first(),
             None => None,
         }
     }
@@ -252,8 +294,8 @@ impl Monitor {
         let Starting { name, bytes } = self.may_start()?;
         let RequestName { session, number } = name;
         let at = self.journal.len() + 1;
-        let state = &mut self.sessions[session as usize - 1];
-        let Begun { request, document } = begin(state, &mut self.turns, session, at);
+        let place = &mut self.sessions[session as usize - 1];
+        let Begun { request, document } = begin(place, &mut self.turns, session, at);
         let command = command(self.world.world(), &request);
         self.running = Some(request);
         self.command = command;

@@ -1,4 +1,4 @@
-ghost use Rattle.std.specs.Prelude.{◌≡◌, ◌≢◌, ◌+◌, ◌<◌, ◌≤◌, [], ◌∷◌, ◌++◌, length, None, Err, IfOk, OnOk, OnErr, false, true};
+ghost use Rattle.std.specs.Prelude.{◌≡◌, ◌≢◌, ◌+◌, ◌<◌, ◌≤◌, [], ◌∷◌, ◌++◌, length, None, Err, IsSome, IfSome, IfOk, OnOk, OnErr, false, true};
 ghost use Rattle.std.specs.Result.{result_err};
 ghost use Rattle.qm_core.specs.Drained.{is_drained};
 ghost use Rattle.qm_core.specs.Legal.{past_of};
@@ -6,7 +6,8 @@ ghost use Rattle.qm_core.specs.Next.{Next, Open, Take, End, Drop, cause_fault};
 ghost use Rattle.qm_core.specs.Order.{cause_holds};
 ghost use Rattle.qm_core.specs.declared.entries.Entry.TheVariants as entry;
 ghost use Rattle.qm_core.specs.Standing.{sessions_of, is_ended, is_stopped};
-ghost use Rattle.qm_core.specs.Sessions.{session_at};
+ghost use Rattle.qm_core.specs.Kept.{kept_of};
+ghost use Rattle.qm_core.specs.Sessions.{open_in, session_at, while_open};
 ghost use Rattle.qm_core.specs.declared.TheConstants.{MOST_SESSIONS};
 ghost use Rattle.qm_core.specs.Transcript.{untaken_of};
 
@@ -15,7 +16,7 @@ use crate::entries::{Cause, Entry, StepFault};
 use crate::lines::{LineList, line};
 use crate::monitor::Monitor;
 use crate::outbox::Copies;
-use crate::sessions::Session;
+use crate::sessions::{Place, Session};
 use crate::sizes::drop_size;
 use qm_base::NoMemory;
 use qm_caps::greeting;
@@ -40,12 +41,12 @@ struct Opening {
 }
 
 /// One session more, and its place in the queue of turns. An error leaves both as they were.
-fn add(sessions: &mut Vec<Session>, turns: &mut TurnQueue, session: Session) -> Result<(), NoMemory>
-    ensures sessions { OnOk result (sessions.new.items ≡ sessions.old.items ++ session ∷ []) }
+fn add(sessions: &mut Vec<Place>, turns: &mut TurnQueue, place: Place) -> Result<(), NoMemory>
+    ensures sessions { OnOk result (sessions.new.items ≡ sessions.old.items ++ place ∷ []) }
     ensures turns { OnOk result (turns.new ≡ turns.old ++ None ∷ []) }
     ensures err { OnErr result ((sessions.new.items ≡ sessions.old.items) × (turns.new ≡ turns.old)) }
 {
-    if sessions.push(session).is_err() {
+    if sessions.push(place).is_err() {
         return Err(NoMemory);
     }
     if turns.open().is_err() {
@@ -55,8 +56,32 @@ fn add(sessions: &mut Vec<Session>, turns: &mut TurnQueue, session: Session) -> 
     Ok(())
 }
 
+/// Notes the end of the input of an open session.
+fn end_input(place: &mut Place)
+    ensures { kept_of place.new
+        ≡ while_open (λ session. record session { ended = true }) (kept_of place.old) }
+{
+    if let Place::Open(state) = place {
+        state.ended = true;
+    }
+}
+
+/// Moves the lines of an open session out. It takes no memory.
+fn take_lines(place: &mut Place) -> Copies
+    requires { IsSome (open_in (kept_of place.old)) }
+    ensures lines { IfSome (open_in (kept_of place.old)) (λ session.
+        (result.kept ≡ session.outbox) × (result.given ≡ session.outbox)) }
+    ensures kept { kept_of place.new
+        ≡ while_open (λ session. record session { outbox = [] }) (kept_of place.old) }
+{
+    let Place::Open(state) = place else {
+        unreachable!();
+    };
+    state.take()
+}
+
 impl Monitor {
-    ghost use Rattle.qm_core.specs.Kept.{IsOpen, IsPlaced, kept_of, refusal_in};
+    ghost use Rattle.qm_core.specs.Kept.{IsOpen, IsPlaced, refusal_in};
     ghost use Rattle.qm_core.specs.declared.entries.StepFault.{StepFault};
 
     fn may_open(&self) -> Result<Opening, StepFault>
@@ -94,9 +119,8 @@ impl Monitor {
     {
         let Opening { session, bytes } = self.may_open()?;
         let greeting = greeting(alloc)?;
-        let mut state = Session::new(alloc)?;
-        state.send(line(alloc, &greeting)?)?;
-        add(&mut self.sessions, &mut self.turns, state)?;
+        let place = Place::new(alloc, line(alloc, &greeting)?)?;
+        add(&mut self.sessions, &mut self.turns, place)?;
         self.open_count += 1;
         self.journal.put(Entry::Open { session }, bytes);
         Ok(session)
@@ -123,8 +147,8 @@ impl Monitor {
         ensures { Next self.old (End session) (result_err result) self.new }
     {
         let bytes = self.may_end(session)?;
-        let state = &mut self.sessions[session as usize - 1];
-        state.ended = true;
+        let place = &mut self.sessions[session as usize - 1];
+        end_input(place);
         self.journal.put(Entry::Eof { session }, bytes);
         Ok(())
     }
@@ -152,8 +176,8 @@ impl Monitor {
         ensures value { IfOk result (λ lines. lines ≡ untaken_of session (past_of self.old.journal)) }
     {
         let bytes = self.may_take(session)?;
-        let state = &mut self.sessions[session as usize - 1];
-        let Copies { kept, given } = state.outbox.take();
+        let place = &mut self.sessions[session as usize - 1];
+        let Copies { kept, given } = take_lines(place);
         self.journal.put(
             Entry::Take {
                 session,
@@ -166,7 +190,7 @@ impl Monitor {
 
     fn is_drained(&self, session: u32, state: &Session) -> bool
         requires open { IsOpen (past_of self.now.journal) session }
-        requires state { kept_of state.now ≡ session_at (past_of self.now.journal) session }
+        requires state { state.now ≡ session_at (past_of self.now.journal) session }
         ensures { result ≡ is_drained session (past_of self.now.journal) }
     {
         state.ended
@@ -178,7 +202,7 @@ impl Monitor {
 
     fn cause_holds(&self, session: u32, state: &Session, cause: Cause) -> bool
         requires open { IsOpen (past_of self.now.journal) session }
-        requires state { kept_of state.now ≡ session_at (past_of self.now.journal) session }
+        requires state { state.now ≡ session_at (past_of self.now.journal) session }
         ensures { result ≡ cause_holds (past_of self.now.journal) session cause }
     {
         match cause {
@@ -214,10 +238,8 @@ impl Monitor {
         ensures { Next self.old (Drop session cause) (result_err result) self.new }
     {
         self.may_drop(session, cause)?;
-        let state = &mut self.sessions[session as usize - 1];
-        state.dropped = true;
-        state.waiting.give_up();
-        state.open_out_of_band = None;
+        let place = &mut self.sessions[session as usize - 1];
+        place.close();
         self.turns.remove(session);
         self.open_count -= 1;
         let bytes = drop_size(self.journal.len() + 1, session, cause);

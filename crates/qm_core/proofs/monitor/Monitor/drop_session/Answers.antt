@@ -1,12 +1,12 @@
-use Rattle.std.proofs.Common.{◌≡◌, ◌∷◌, ◌∙◌, [], None, true, ap, arith, refl, sym}
+use Rattle.std.proofs.Common.{◌≡◌, ◌∷◌, ◌∙◌, None, ap, arith, refl, sym}
 use Rattle.qm_core.specs.Kept.{kept_of}
 use Rattle.qm_core.specs.Legal.{past_of}
-use Rattle.qm_core.specs.Sessions.{Kept, session_at}
+use Rattle.qm_core.specs.Sessions.{Kept, OfClosed, kept_at, rest_in}
 use Rattle.qm_core.specs.declared.entries.Entry.TheVariants.{Drop}
-use Rattle.qm_core.specs.declared.sessions.Session.{Session}
+use Rattle.qm_core.specs.declared.sessions.ClosedSession.{ClosedSession}
 use Rattle.qm_core.proofs.Counts.{counts-drop}
 use Rattle.qm_core.proofs.Keeping.{after_entry, drop-placed, is-open, kept-at, sessions-changed, turns-changed}
-use Rattle.qm_core.proofs.Records.{drop-here, drop-other}
+use Rattle.qm_core.proofs.Records.{drop-here, drop-other, kept-rest}
 use Rattle.qm_core.proofs.Turns.{drop-turn, drop-turn-other}
 use Rattle.qm_core.proofs.monitor.Monitor.drop_session.Goals as goal
 
@@ -32,16 +32,15 @@ invariant_of-self c =
     let s = c.args.session in
     let e = Drop s c.args.cause in
     let known = ok.«open».known in
-    let state : kept_of c.index_mut-state.result.now ≡ session_at past s = ap kept_of c.index_mut-state.ensures.value ∙ kept-at past s c.self.inside.sessions.items _ sound.legal.ordered sound.sessions known in
-    let new : Session = record c.index_mut-state.result.now { dropped = true; waiting = c.give_up.new.self; open_out_of_band = None } in
-    let here : kept_of new ≡ session_at (e ∷ past) s =
-    rw c.give_up.ensures (ap (λ (k : Kept). record k { dropped = true; waiting = []; open_out_of_band = None }) state) ∙ sym (drop-here s c.args.cause past) in
+    let held : kept_of c.index_mut-place.result.now ≡ kept_at past s = ap kept_of c.index_mut-place.ensures.value ∙ kept-at past s c.self.inside.sessions.items _ sound.legal.ordered sound.sessions known in
+    let here : kept_of c.close.new.self ≡ kept_at (e ∷ past) s =
+    c.close.ensures ∙ ap (λ (k : Kept). OfClosed (rest_in k)) held ∙ ap (λ (r : ClosedSession). OfClosed r) (kept-rest s past) ∙ sym (drop-here s c.args.cause past) in
     let less = counts-drop past s c.args.cause sound.legal.ordered (is-open past s ok.«open») in
     after_entry c.self.inside _ e _ sound record { is_open = is-open past s ok.«open»; holds = ok.holds } tt (drop-placed c.self.inside s _ c.args.cause sound ok.«open» (rw c.len.ensures at c.drop_size-bytes.ensures.exact) c.drop_size-bytes.ensures.kept) record {
       world = refl;
       limits = refl;
       journal = c.put.ensures;
-      sessions = sessions-changed past e s c.self.inside.sessions.items new sound.legal.ordered sound.sessions known refl here refl (λ t. drop-other s t c.args.cause past);
+      sessions = sessions-changed past e s c.self.inside.sessions.items c.close.new.self sound.legal.ordered sound.sessions known refl here (λ t. drop-other s t c.args.cause past);
       turns = c.remove.ensures ∙ turns-changed past e s c.self.inside.turns None sound.legal.ordered sound.turns known refl (sym (drop-turn s c.args.cause past)) (λ t. drop-turn-other s t c.args.cause past);
       open_count = omega (arith, sound.open_count, less);
       running = record { request = sound.running.request; command = sound.running.command; known = sound.running.known };

@@ -1,14 +1,13 @@
-use Rattle.std.proofs.Common.{◌≡◌, ◌∷◌, ◌∙◌, ℕ, Bool, true, ◌&&◌, List, cond, codes, Some, None, ap, arith, refl, rules, subst, sym}
+use Rattle.std.proofs.Common.{◌≡◌, ◌∷◌, ◌∙◌, ℕ, Bool, true, List, codes, Some, None, ap, arith, refl, rules, subst, sym}
 use Rattle.std.specs.Result.{result_err}
 use Rattle.qm_json.specs.Printing.{printed}
-use Rattle.qm_caps.specs.Modes.{is_negotiating}
-use Rattle.qm_core.specs.{Kept.has_places, Kept.kept_of, Legal.past_of, Planned.mode_by}
+use Rattle.qm_core.specs.{Kept.kept_of, Legal.past_of}
 use Rattle.qm_core.specs.Next.{Finish, entry_of, full_refusal, is_running}
-use Rattle.qm_core.specs.Sessions.{Kept, session_at, told}
+use Rattle.qm_core.specs.Sessions.{Kept, kept_at, told_of, while_open}
 use Rattle.qm_core.specs.Standing.{answers, running_of, was_opened}
 use Rattle.qm_core.specs.declared.entries.{Entry.TheVariants.Done, StepFault.TheVariants.NotRunning}
 use Rattle.qm_core.specs.declared.requests.{RequestName.RequestName}
-use Rattle.qm_core.proofs.Keeping.{after_entry, kept-at, last-moment, may-come, next-entry, next-refused, not-refused, places-at, places-kept, sessions-changed, sessions-count, told-dropped}
+use Rattle.qm_core.proofs.Keeping.{after_entry, kept-at, last-moment, may-come, next-entry, next-refused, not-refused, sessions-changed, sessions-count}
 use Rattle.qm_core.proofs.Pasts.{opened-within, running-opened}
 use Rattle.qm_core.proofs.Records.{done-here, done-other}
 use Rattle.qm_core.proofs.monitor.Monitor.finish.Goals as goal
@@ -27,8 +26,8 @@ overflow_sub-session c =
     let known : was_opened c.args.session past ≡ true = subst (λ (u : ℕ). was_opened u past ≡ true) ok.named.0 (running-opened past c.in_ok-request.request.now legal ok.runs) in
     omega (arith, (opened-within c.args.session past legal known).0)
 
-pub index_mut-state-requires : goal.index_mut-state-requires
-index_mut-state-requires c =
+pub index_mut-place-requires : goal.index_mut-place-requires
+index_mut-place-requires c =
     let sound = c.self.invariant in
     let past = past_of c.self.inside.journal.items in
     let ok = rw (← c.self.view_is) at c.in_ok-request.ensures in
@@ -53,20 +52,17 @@ invariant_of-self-2 c =
     let opens = c.in_ok-reply.field-0.negotiates in
     let last = c.max-moment.result in
     let e = Done s k plan reply last in
-    let old = c.index_mut-state.result.now in
-    let new = c.answered.new.state in
     let planned = rw (← c.self.view_is) at c.requires.planned in
     let known : was_opened s past ≡ true = subst (λ (u : ℕ). was_opened u past ≡ true) ok.named.0 (running-opened past request sound.legal.ordered ok.runs) in
-    let state : kept_of old ≡ session_at past s = ap kept_of c.index_mut-state.ensures.value ∙ kept-at past s c.self.inside.sessions.items _ sound.legal.ordered sound.sessions known in
+    let held : kept_of c.index_mut-place.result.now ≡ kept_at past s = ap kept_of c.index_mut-place.ensures.value ∙ kept-at past s c.self.inside.sessions.items _ sound.legal.ordered sound.sessions known in
     let come = may-come past c.args.moment c.self.inside.last_moment last sound.moment c.max-moment.ensures (search rules) in
     let wire : line ≡ printed reply = made.line ∙ ap printed (sym made.reply) in
     let mode : opens ≡ answers (codes "qmp_capabilities") (running_of past) reply = rw (ok.runs, made.reply) made.mode in
-    let told_of : List ℕ → Bool → Kept → Kept = λ l b r. record (told r l) { mode = cond (is_negotiating r.mode && b) (mode_by plan) r.mode } in
-    let here : kept_of new ≡ session_at (e ∷ past) s =
-    c.in_ok-answered.ensures.ok ∙ ap (λ (r : Kept). told_of line opens r) state ∙ ap (λ (l : List ℕ). told_of l opens (session_at past s)) wire ∙ ap (λ (b : Bool). told_of (printed reply) b (session_at past s)) mode
-    ∙ sym (done-here s k plan reply last past sound.legal.ordered known) in
-    let places = places-kept old new (ap (λ (r : Kept). r.dropped) c.in_ok-answered.ensures.ok ∙ told-dropped (kept_of old) line) (ap (λ w. w.places) c.in_ok-answered.ensures.places)
-    (ap has_places c.index_mut-state.ensures.value ∙ places-at past s c.self.inside.sessions.items _ sound.legal.ordered sound.sessions known) in
+    let here : kept_of c.tell.new.place ≡ kept_at (e ∷ past) s =
+    c.in_ok-tell.ensures.ok ∙ ap (λ (l : List ℕ). while_open (told_of plan opens l) (kept_of c.index_mut-place.result.now)) wire
+    ∙ ap (λ (b : Bool). while_open (told_of plan b (printed reply)) (kept_of c.index_mut-place.result.now)) mode
+    ∙ ap (λ (x : Kept). while_open (told_of plan (answers (codes "qmp_capabilities") (running_of past) reply) (printed reply)) x) held
+    ∙ done-here s k plan reply last past sound.legal.ordered known in
     let stopped : c.in_ok-reply.field-0.stops ≡ answers (codes "quit") (running_of past) reply = rw (ok.runs, made.reply) made.stop in
     after_entry c.self.inside _ e c.in_ok-bytes.bytes sound record {
       running = rw ok.runs (ap (λ (q : RequestName). Some q) (rw (ok.named.0, ok.named.1) refl));
@@ -75,7 +71,7 @@ invariant_of-self-2 c =
       world = refl;
       limits = refl;
       journal = c.put.ensures;
-      sessions = sessions-changed past e s c.self.inside.sessions.items new sound.legal.ordered sound.sessions known refl here places (λ t. done-other s k t plan reply last past);
+      sessions = sessions-changed past e s c.self.inside.sessions.items c.tell.new.place sound.legal.ordered sound.sessions known refl here (λ t. done-other s k t plan reply last past);
       turns = sound.turns;
       open_count = sound.open_count;
       running = record { request = refl; command = refl; known = tt };

@@ -1,5 +1,6 @@
 use Rattle.std.proofs.Common.{◌∙◌, sym, arith}
 use Rattle.std.proofs.lemmas.Bool.Decides.{nat_tests}
+use Rattle.qm_core.specs.Legal.{past_of}
 use Rattle.qm_core.proofs.Keeping.{sessions-count}
 use Rattle.qm_core.proofs.Pasts.{opened-is}
 use Rattle.qm_core.proofs.Records.{untouched}
@@ -8,7 +9,7 @@ use Rattle.qm_core.proofs.monitor.Monitor.is_known.Goals as goal
 pub returns-then-session-gt0-clause-known : goal.returns-then-session-gt0-clause-known
 returns-then-session-gt0-clause-known c =
     let sound = c.self.invariant in
-    let count = sessions-count _ c.self.inside.sessions.items sound.sessions in
+    let count = sessions-count (past_of c.self.inside.journal.items) c.self.inside.sessions.items sound.sessions in
     let known = opened-is c.args.session _ sound.legal.ordered in
     rw (← c.self.view_is) (grind (arith, nat_tests, count, known, c.len.ensures, c.if-session-gt0))
 

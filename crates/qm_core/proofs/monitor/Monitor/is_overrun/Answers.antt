@@ -1,6 +1,8 @@
 use Rattle.std.proofs.Common.{◌∙◌, ap, sym}
-use Rattle.qm_core.specs.Sessions.{Kept}
+use Rattle.qm_core.specs.declared.sessions.Session.{Session}
+use Rattle.qm_core.specs.{Legal.past_of, Sessions.fresh}
+use Rattle.qm_core.proofs.Records.{was-open}
 use Rattle.qm_core.proofs.monitor.Monitor.is_overrun.Goals as goal
 
 pub returns-else-is_known : goal.returns-else-is_known
-returns-else-is_known c = c.if-is_known.false ∙ sym (ap (λ (k : Kept). k.overrun) (c.is_known.ensures.untouched c.if-is_known.false))
+returns-else-is_known c = c.if-is_known.false ∙ sym (ap (λ (x : Session). x.overrun) (was-open c.args.session (past_of c.args.self.now.journal) fresh (c.is_known.ensures.untouched c.if-is_known.false)).state)

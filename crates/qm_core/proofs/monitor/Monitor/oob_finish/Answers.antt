@@ -1,14 +1,13 @@
-use Rattle.std.proofs.Common.{◌≡◌, ◌∷◌, ◌∙◌, ℕ, List, Some, None, ap, refl, rules, sym}
+use Rattle.std.proofs.Common.{◌≡◌, ◌∷◌, ◌∙◌, ℕ, List, Some, ap, refl, rules, sym}
 use Rattle.std.specs.Result.{result_err}
 use Rattle.qm_json.specs.Printing.{printed}
-use Rattle.qm_core.specs.{Kept.has_places, Kept.kept_of, Legal.past_of}
+use Rattle.qm_core.specs.{Kept.kept_of, Legal.past_of}
 use Rattle.qm_core.specs.Next.{FinishOob, closed_refusal, entry_of, full_refusal, is_open_out_of_band}
-use Rattle.qm_core.specs.Sessions.{Kept, sent, session_at}
+use Rattle.qm_core.specs.Sessions.{Kept, kept_at, told_out_of_band, while_open}
 use Rattle.qm_core.specs.declared.entries.{Entry.TheVariants.OobDone, StepFault.TheVariants.NotOpen}
 use Rattle.qm_core.specs.declared.requests.RequestName.{RequestName}
-use Rattle.qm_core.specs.declared.sessions.Session.{Session}
-use Rattle.qm_core.proofs.Keeping.{after_entry, is-open, kept-at, last-moment, may-come, next-refused, places-at, places-kept, sessions-changed}
-use Rattle.qm_core.proofs.Records.{oob-here, oob-other}
+use Rattle.qm_core.proofs.Keeping.{after_entry, is-open, kept-at, last-moment, may-come, next-refused, sessions-changed}
+use Rattle.qm_core.proofs.Records.{oob-here, oob-other, open-changed}
 use Rattle.qm_core.proofs.monitor.Monitor.oob_finish.Goals as goal
 
 pub returns-in_err-request-clause-next : goal.returns-in_err-request-clause-next
@@ -31,19 +30,14 @@ invariant_of-self-2 c =
     let line = c.in_ok-reply.field-0.line in
     let last = c.max-moment.result in
     let e = OobDone s k plan reply last in
-    let old = c.index_mut-state.result.now in
-    let new : Session = record c.send.new.self { open_out_of_band = None } in
     let planned = rw (← c.self.view_is) at c.requires.planned in
     let known = ok.«open».known in
-    let state : kept_of old ≡ session_at past s = ap kept_of c.index_mut-state.ensures.value ∙ kept-at past s c.self.inside.sessions.items _ sound.legal.ordered sound.sessions known in
+    let held : kept_of c.index_mut-place.result.now ≡ kept_at past s = ap kept_of c.index_mut-place.ensures.value ∙ kept-at past s c.self.inside.sessions.items _ sound.legal.ordered sound.sessions known in
     let come = may-come past c.args.moment c.self.inside.last_moment last sound.moment c.max-moment.ensures (search rules) in
     let wire : line ≡ printed reply = made.line ∙ ap printed (sym made.reply) in
-    let sent_of : List ℕ → Kept → Kept = λ l r. record (sent r l) { open_out_of_band = None } in
-    let here : kept_of new ≡ session_at (e ∷ past) s =
-    ap (λ (r : Kept). record r { open_out_of_band = None }) c.in_ok-send.ensures.ok ∙ ap (λ (r : Kept). sent_of line r) state ∙ ap (λ (l : List ℕ). sent_of l (session_at past s)) wire
-    ∙ sym (oob-here s k plan reply last past sound.legal.ordered (is-open past s ok.«open»)) in
-    let places = places-kept old new (ap (λ (r : Kept). r.dropped) c.in_ok-send.ensures.ok) (ap (λ w. w.places) c.in_ok-send.ensures.places)
-    (ap has_places c.index_mut-state.ensures.value ∙ places-at past s c.self.inside.sessions.items _ sound.legal.ordered sound.sessions known) in
+    let here : kept_of c.tell_out_of_band.new.place ≡ kept_at (e ∷ past) s =
+    c.in_ok-tell_out_of_band.ensures.ok ∙ ap (λ (l : List ℕ). while_open (told_out_of_band l) (kept_of c.index_mut-place.result.now)) wire ∙ ap (λ (k : Kept). while_open (told_out_of_band (printed reply)) k) held
+    ∙ open-changed e s past (told_out_of_band (printed reply)) ok.«open».stays ok.«open».stays (oob-here s k plan reply last past sound.legal.ordered (is-open past s ok.«open»)) in
     after_entry c.self.inside _ e c.in_ok-bytes.bytes sound record {
       is_open = is-open past s ok.«open»;
       request = rw ok.opens (ap (λ (q : RequestName). Some q) (rw (ok.named.0, ok.named.1) refl));
@@ -52,7 +46,7 @@ invariant_of-self-2 c =
       world = refl;
       limits = refl;
       journal = c.put.ensures;
-      sessions = sessions-changed past e s c.self.inside.sessions.items new sound.legal.ordered sound.sessions known refl here places (λ t. oob-other s k t plan reply last past);
+      sessions = sessions-changed past e s c.self.inside.sessions.items c.tell_out_of_band.new.place sound.legal.ordered sound.sessions known refl here (λ t. oob-other s k t plan reply last past);
       turns = sound.turns;
       open_count = sound.open_count;
       running = record { request = sound.running.request; command = sound.running.command; known = sound.running.known };

@@ -5,10 +5,10 @@ use Rattle.qm_queue.specs.declared.turns.TurnItem.{TurnItem}
 use Rattle.qm_core.specs.Kept.{kept_of}
 use Rattle.qm_core.specs.Legal.{past_of}
 use Rattle.qm_core.specs.Standing.{sessions_of}
-use Rattle.qm_core.specs.Sessions.{Kept, fresh, session_at, sent, turn_at}
+use Rattle.qm_core.specs.Sessions.{OfOpen, fresh, kept_at, sent, turn_at}
 use Rattle.qm_core.specs.declared.entries.Entry.TheVariants.{Open}
 use Rattle.qm_core.proofs.Counts.{counts-open}
-use Rattle.qm_core.proofs.Keeping.{after_entry, has-places, sessions-more}
+use Rattle.qm_core.proofs.Keeping.{after_entry, sessions-more}
 use Rattle.qm_core.proofs.Lists.{list-more}
 use Rattle.qm_core.proofs.Pasts.{past-not-opened}
 use Rattle.qm_core.proofs.Records.{open-here}
@@ -22,11 +22,10 @@ invariant_of-self-2 c =
     let ok = rw (← c.self.view_is) at c.in_ok-session.ensures in
     let s = c.in_ok-session.field-0.session in
     let none = past-not-opened s past sound.legal.ordered (omega (arith, ok.next)) in
-    let new = c.send.new.self in
+    let new = c.in_ok-place.place in
     let line : c.in_ok-line.field-0 ≡ printed greeting_value = search rules in
-    let here : kept_of new ≡ session_at (Open s ∷ past) s =
-    c.in_ok-send.ensures.ok ∙ ap (λ (k : Kept). sent k c.in_ok-line.field-0) c.in_ok-state.ensures.kept ∙ ap (λ (l : List ℕ). sent fresh l) line ∙ sym (open-here s past sound.legal.ordered none) in
-    let places = has-places new (search rules) in
+    let here : kept_of new ≡ kept_at (Open s ∷ past) s =
+    c.in_ok-place.ensures ∙ ap (λ (l : List ℕ). OfOpen (sent fresh l)) line ∙ sym (open-here s past sound.legal.ordered none) in
     let turns : c.self.inside.turns ++ None ∷ [] ≡ map (turn_at (Open s ∷ past)) (sessions_of past ++ s ∷ []) =
     ap (λ (l : List (Option TurnItem)). l ++ None ∷ []) sound.turns ∙ ap (λ (i : Option TurnItem). map (turn_at past) (sessions_of past) ++ i ∷ []) (sym (open-turn s past sound.legal.ordered none))
     ∙ list-more (turn_at past) (turn_at (Open s ∷ past)) past s sound.legal.ordered ok.next (λ t. open-turn-other s t past) in
@@ -34,7 +33,7 @@ invariant_of-self-2 c =
       world = refl;
       limits = refl;
       journal = c.put.ensures;
-      sessions = rw c.in_ok-add.ensures.sessions (sessions-more past s c.self.inside.sessions.items new sound.legal.ordered sound.sessions ok.next here places);
+      sessions = rw c.in_ok-add.ensures.sessions (sessions-more past s c.self.inside.sessions.items new sound.legal.ordered sound.sessions ok.next here);
       turns = c.in_ok-add.ensures.turns ∙ turns;
       open_count = ap (λ (n : ℕ). n + 1) sound.open_count ∙ sym (counts-open past s sound.legal.ordered ok.next);
       running = record { request = sound.running.request; command = sound.running.command; known = sound.running.known };
