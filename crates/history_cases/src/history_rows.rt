@@ -101,8 +101,8 @@ const REFUSED: [(&str, u32); 33] = [
     ("1 take 1 1\n> a\n> b\nend 1\n", 3),
 ];
 
-fn whole(alloc: Global, text: &str, end: &str) -> Result<Text, Fail> {
-    let mut whole = Text::of(alloc, text.as_bytes())?;
+fn whole(alloc: Global, text: &[u8], end: &str) -> Result<Text, Fail> {
+    let mut whole = Text::of(alloc, text)?;
     whole.extend(end.as_bytes())?;
     Ok(whole)
 }
@@ -122,7 +122,7 @@ fn journal_of(alloc: Global, entries: EntryWordList) -> Result<EntryList, Fail> 
 /// Reads a history, and writes what was read.
 fn there_and_back(
     alloc: Global,
-    text: &str,
+    text: &[u8],
     end: &str,
     sink: &mut MemorySink,
 ) -> Result<bool, Fail> {
@@ -139,7 +139,12 @@ fn there_and_back(
 #[test]
 fn urgent_overtakes_eight(rt: HostRuntime) -> Result<(), Fail> {
     let mut sink = MemorySink::new(rt.alloc(), CallList::new(rt.alloc()));
-    let read = there_and_back(rt.alloc(), URGENT_OVERTAKES_EIGHT, "end 15\n", &mut sink)?;
+    let read = there_and_back(
+        rt.alloc(),
+        URGENT_OVERTAKES_EIGHT.as_bytes(),
+        "end 15\n",
+        &mut sink,
+    )?;
     assert!(rt; read);
     assert_eq!(rt; sink.taken(), URGENT_OVERTAKES_EIGHT.as_bytes());
     Ok(())
@@ -148,9 +153,32 @@ fn urgent_overtakes_eight(rt: HostRuntime) -> Result<(), Fail> {
 #[test]
 fn every_kind_is_read(rt: HostRuntime) -> Result<(), Fail> {
     let mut sink = MemorySink::new(rt.alloc(), CallList::new(rt.alloc()));
-    let read = there_and_back(rt.alloc(), EVERY_KIND, "end 25\n", &mut sink)?;
+    let read = there_and_back(rt.alloc(), EVERY_KIND.as_bytes(), "end 25\n", &mut sink)?;
     assert!(rt; read);
     assert_eq!(rt; sink.taken(), EVERY_KIND.as_bytes());
+    Ok(())
+}
+
+/// A reply that is nested so deep.
+fn deep(alloc: Global, depth: usize) -> Result<Text, Fail> {
+    let mut text = Text::of(alloc, b"1 done 1 1 @0 ")?;
+    for _ in 0..depth {
+        text.push(b'[')?;
+    }
+    for _ in 0..depth {
+        text.push(b']')?;
+    }
+    text.push(b'\n')?;
+    Ok(text)
+}
+
+#[test]
+fn a_deep_reply_is_read(rt: HostRuntime) -> Result<(), Fail> {
+    let text = deep(rt.alloc(), 200)?;
+    let mut sink = MemorySink::new(rt.alloc(), CallList::new(rt.alloc()));
+    let read = there_and_back(rt.alloc(), text.as_slice(), "end 1\n", &mut sink)?;
+    assert!(rt; read);
+    assert_eq!(rt; sink.taken(), text.as_slice());
     Ok(())
 }
 

@@ -38,14 +38,14 @@ answer-line s k plan reply moment h =
     let named : IsLine (request_text_of s k ++ codes " @") = line-append (request_text_of s k) (codes " @") (request-line s k) refl in
     let timed : IsLine (request_text_of s k ++ codes " @" ++ decimal moment) = line-append (request_text_of s k ++ codes " @") (decimal moment) named (decimal-line moment) in
     line-append (request_text_of s k ++ codes " @" ++ decimal moment ++ codes " ") (printed reply)
-    (line-append (request_text_of s k ++ codes " @" ++ decimal moment) (codes " ") timed refl) (printed-line reply h.value.clean)
+    (line-append (request_text_of s k ++ codes " @" ++ decimal moment) (codes " ") timed refl) (printed-line reply h.clean)
 
 lane-line : (lane : Lane) → IsLine (lane_word_of lane)
 lane-line InBand = refl
 lane-line Oob = refl
 
 has-clean : (lane : Lane) (i : Input) → HasInput lane i → IsCleanInput i
-has-clean lane (Doc value) h = h.clean
+has-clean lane (Doc value) h = h
 has-clean InBand (Bad bad) h = h
 has-clean Oob (Bad bad) h = absurd h
 

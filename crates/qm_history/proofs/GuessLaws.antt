@@ -1,5 +1,5 @@
 -- First lines of entries: what is printed is read, and what is read was printed.
-use Rattle.std.proofs.Common.{◌≡◌, ℕ, ◌^◌, ◌<◌, Bool, true, false, cond, ◌&&◌, ◌==◌, nat_lt, List, [], ◌∷◌, ◌++◌, drop, codes, Option, Some, None, option_map, Result, Ok, Err, refl, ap, sym, ◌∙◌, subst, arith, append_assoc}
+use Rattle.std.proofs.Common.{◌≡◌, ℕ, ◌^◌, ◌<◌, Bool, true, false, cond, ◌&&◌, ◌==◌, nat_lt, List, [], ◌∷◌, ◌++◌, drop, length, codes, Option, Some, None, option_map, Result, Ok, Err, refl, ap, sym, ◌∙◌, subst, arith, append_assoc}
 use Rattle.std.specs.Prelude.{nat_eq}
 use Rattle.std.specs.Char.{is_ascii_digit}
 use Rattle.std.specs.Fmt.{decimal}
@@ -11,12 +11,13 @@ use Rattle.std.proofs.lemmas.Bool.{and_parts, cond-true, cond-false, cond_both, 
 use Rattle.std.proofs.lemmas.Bool.Decides.{nat_tests, Decides-eqb}
 use Rattle.std.proofs.lemmas.Slice.Eq.{bytes_eq-Decides, starts_is}
 use Rattle.qm_base.specs.Numerals.{number_of, is_numeral}
+use Rattle.qm_json.specs.Cleanness.{IsClean}
 use Rattle.qm_json.specs.declared.value.Json.{Json}
 use Rattle.qm_json.specs.Printing.{printed}
 use Rattle.qm_read.specs.declared.fault.JsonFault.{JsonFault}
-use Rattle.qm_read.specs.Faults.{reading_of}
-use Rattle.qm_read.proofs.PrintedValues.{printed_value}
-use Rattle.qm_read.proofs.Results.{value-clean, value_nested}
+use Rattle.qm_read.specs.Faults.{reading_within}
+use Rattle.qm_read.proofs.PrintedValues.{printed_within}
+use Rattle.qm_read.proofs.Results.{value_clean}
 use Rattle.qm_caps.specs.declared.mode.Lane.{Lane}
 use Rattle.qm_caps.specs.declared.mode.Lane.TheVariants.{InBand, Oob}
 use Rattle.qm_plan.specs.declared.recipes.Plan.{Plan}
@@ -34,9 +35,10 @@ use Rattle.qm_core.specs.declared.entries.Cause.{Cause}
 use Rattle.qm_core.specs.declared.entries.Entry.{Entry, TheVariants.Open, TheVariants.Admit, TheVariants.Start, TheVariants.Done, TheVariants.OobDone, TheVariants.Take, TheVariants.Eof, TheVariants.Drop}
 use Rattle.qm_history.specs.declared.guesses.{Answer.Answer, Head.Head, Head.TheVariants.Whole, Head.TheVariants.Taking}
 use Rattle.qm_history.specs.Words.{before_blank, after_blank, below, session_number}
-use Rattle.qm_history.specs.Histories.{HasName, HasValue, HasAnswer, HasInput, HasAdmission, HasText, end_line}
+use Rattle.qm_history.specs.Histories.{HasName, HasAnswer, HasInput, HasAdmission, HasText, end_line}
 use Rattle.qm_history.specs.Forms.{answer_of, first_line_of, taken_line}
 use Rattle.qm_history.specs.Guesses.{head_of, told_by, head_line_of, IsHead, start_head, take_head, drop_head, moment_in, read_value, value_in, answer_value, answer_moment, answer_number, answer_in, done, oob_done, lane_in, frame_in, json_word, json_in, bad_or, bad_in, document_in, input_in, admit_input, admit_lane, admit_number, admit_head, verb_head, guess, same_line, head_in}
+use Rattle.qm_history.proofs.Depths.{deep-long}
 use Rattle.qm_history.proofs.Digits.{all_digits}
 use Rattle.qm_history.proofs.EntryTexts.{cause-found}
 use Rattle.qm_history.proofs.PrintedApart.{printed-begins}
@@ -98,8 +100,8 @@ drop-read s c h =
     ∙ session-of (λ t l. option_map (λ d. Whole (Drop t d)) (cause_of l)) s (cause_word_of c) h
     ∙ ap (option_map (λ d. Whole (Drop s d))) (cause-found c)
 
-value-read : (v : Json) → HasValue v → value_in (printed v) ≡ Some v
-value-read v h = ap read_value (printed_value v h.clean h.shallow)
+value-read : (v : Json) → IsClean v → value_in (printed v) ≡ Some v
+value-read v h = ap read_value (printed_within (length (printed v)) v h (deep-long v))
 
 moment-read : (moment : ℕ) → moment < 2 ^ 64 → moment_in (64 ∷ decimal moment) ≡ Some moment
 moment-read moment h =
@@ -114,7 +116,7 @@ answer-read s k plan reply moment h =
     ∙ session-of (λ t l. answer_number t l) s (decimal k ++ 32 ∷ last) h.request.session
     ∙ word-of (λ n l. answer_moment s n l) number_of (decimal k) last k (decimal-word k) (number-decimal k h.request.number)
     ∙ word-of (λ m l. answer_value s k m l) moment_in (64 ∷ decimal moment) (printed reply) moment (decimal-word moment) (moment-read moment h.below)
-    ∙ ap (option_map (λ v. let a : Answer = record { session = s; number = k; reply = v; moment = moment } in a)) (value-read reply h.value)
+    ∙ ap (option_map (λ v. let a : Answer = record { session = s; number = k; reply = v; moment = moment } in a)) (value-read reply h.clean)
 
 done-read : (s k : ℕ) (plan : Option Plan) (reply : Json) (moment : ℕ) → HasAnswer s k plan reply moment → option_map done (answer_in (answer_of s k reply moment)) ≡ Some (Whole (Done s k plan reply moment))
 done-read s k plan reply moment h = ap (option_map done) (answer-read s k plan reply moment h) ∙ ap (λ (p : Option Plan). Some (Whole (Done s k p reply moment))) (sym h.planless)
@@ -148,15 +150,15 @@ bad-read (bad.Json (Duplicate p)) h = place-read (codes "duplicate") p (Duplicat
 bad-read (bad.Json (BadEscape p)) h = place-read (codes "bad-escape") p (BadEscape p) refl refl h refl
 bad-read (bad.Json (BadUtf8 p)) h = place-read (codes "bad-utf8") p (BadUtf8 p) refl refl h refl
 
-doc-read : (v : Json) → HasValue v → document_in (printed v) ≡ Some (input.Doc v)
+doc-read : (v : Json) → IsClean v → document_in (printed v) ≡ Some (input.Doc v)
 doc-read v h = ap (option_map input.Doc) (value-read v h)
 
-not-bad : (v : Json) → HasValue v → starts_with nat_eq (printed v) (codes "bad ") ≡ false
+not-bad : (v : Json) → IsClean v → starts_with nat_eq (printed v) (codes "bad ") ≡ false
 not-bad v h = by (starts_with nat_eq (printed v) (codes "bad ")) refl
   where
     by : (b : Bool) → starts_with nat_eq (printed v) (codes "bad ") ≡ b → b ≡ false
     by false e = refl
-    by true e = absurd (printed-begins v h.clean 98 (codes "ad " ++ drop 4 (printed v)) refl ((starts_is Decides-eqb (printed v) (codes "bad ") (starts_with nat_eq (printed v) (codes "bad ")) refl).0 e))
+    by true e = absurd (printed-begins v h 98 (codes "ad " ++ drop 4 (printed v)) refl ((starts_is Decides-eqb (printed v) (codes "bad ") (starts_with nat_eq (printed v) (codes "bad ")) refl).0 e))
 
 input-read : (l : Lane) (i : Input) → HasInput l i → input_in l (input_text_of i) ≡ Some i
 input-read Oob (input.Doc v) h = doc-read v h
@@ -228,11 +230,11 @@ number-small text k e = by (is_numeral text) (nat_lt (digits_value 10 text) (2 ^
 session-small : (text : List ℕ) (s : ℕ) → session_number text ≡ Some s → s < 2 ^ 32
 session-small text s e = chained (λ (t : ℕ). t < 2 ^ 32) (λ (t : ℕ). Unit {0}) (below (2 ^ 32)) (number_of text) s (λ _ _. tt) (λ n _ h. small-one (nat_lt n (2 ^ 32)) n s (2 ^ 32) refl h) e
 
-value-good : (text : List ℕ) (v : Json) → value_in text ≡ Some v → HasValue v
-value-good text v e = by (reading_of text) refl e
+value-good : (text : List ℕ) (v : Json) → value_in text ≡ Some v → IsClean v
+value-good text v e = by (reading_within (length text) text) refl e
   where
-    by : (r : Result Json JsonFault) → reading_of text ≡ r → read_value r ≡ Some v → HasValue v
-    by (Ok w) is e = let same : w ≡ v = cc in let read : reading_of text ≡ Ok v = is ∙ ap (λ (x : Json). Ok x) same in record { clean = value-clean text v read; shallow = value_nested text v read }
+    by : (r : Result Json JsonFault) → reading_within (length text) text ≡ r → read_value r ≡ Some v → IsClean v
+    by (Ok w) is e = let same : w ≡ v = cc in value_clean (length text) text v (is ∙ ap (λ (x : Json). Ok x) same)
     by (Err f) is e = cc
 
 small-moment : (text : List ℕ) (m : ℕ) → moment_in text ≡ Some m → m < 2 ^ 64
@@ -248,8 +250,8 @@ answer-good text a =
     chained IsGoodAnswer (λ (s : ℕ). s < 2 ^ 32) (λ s. answer_number s one) (session_number (before_blank text)) a (session-small (before_blank text))
     (λ s i. chained IsGoodAnswer (λ (k : ℕ). k < 2 ^ 64) (λ k. answer_moment s k two) (number_of (before_blank one)) a (number-small (before_blank one))
     (λ k j. chained IsGoodAnswer (λ (m : ℕ). m < 2 ^ 64) (λ m. answer_value s k m (after_blank two)) (moment_in (before_blank two)) a (small-moment (before_blank two))
-    (λ m c. mapped IsGoodAnswer HasValue (λ v. record { session = s; number = k; reply = v; moment = m }) (value_in (after_blank two)) a (value-good (after_blank two))
-    (λ v d. record { request = record { session = i; number = j }; planless = refl; below = c; value = d }))))
+    (λ m c. mapped IsGoodAnswer IsClean (λ v. record { session = s; number = k; reply = v; moment = m }) (value_in (after_blank two)) a (value-good (after_blank two))
+    (λ v d. record { request = record { session = i; number = j }; planless = refl; below = c; clean = d }))))
 
 json-small : (w : List ℕ) (p : ℕ) (j : JsonWord) → p < 2 ^ 64 → json_word w p ≡ Some j → place_of j < 2 ^ 64
 json-small w p j h =
@@ -271,8 +273,8 @@ bad-small text None b e = mapped IsPlaceable (λ (j : JsonWord). place_of j < 2 
 bad-small text (Some w) b e = let same : bad.Frame w ≡ b = cc in subst IsPlaceable same tt
 
 doc-good : (l : Lane) (text : List ℕ) (i : Input) → document_in text ≡ Some i → HasInput l i
-doc-good InBand text i e = mapped (HasInput InBand) HasValue (λ v. input.Doc v) (value_in text) i (value-good text) (λ v d. d) e
-doc-good Oob text i e = mapped (HasInput Oob) HasValue (λ v. input.Doc v) (value_in text) i (value-good text) (λ v d. d) e
+doc-good InBand text i e = mapped (HasInput InBand) IsClean (λ v. input.Doc v) (value_in text) i (value-good text) (λ v d. d) e
+doc-good Oob text i e = mapped (HasInput Oob) IsClean (λ v. input.Doc v) (value_in text) i (value-good text) (λ v d. d) e
 
 input-good : (l : Lane) (text : List ℕ) (i : Input) → input_in l text ≡ Some i → HasInput l i
 input-good Oob text i e = doc-good Oob text i e

@@ -16,7 +16,7 @@ use Rattle.qm_core.proofs.Holding.{Each, Holding, IsGood, hold, none-held}
 use Rattle.qm_core.proofs.Journals.{earlier}
 use Rattle.qm_core.proofs.Pasts.{open_opened, opened-within, few-sessions, few-admitted, named, begins}
 use Rattle.qm_history.specs.Lines.{IsLine, AllLines}
-use Rattle.qm_history.specs.Histories.{without_plan, HasName, HasInput, HasText, AllHaveText, IsShallow, HasValues, AllHaveValues, IsHistory, whole_text_of}
+use Rattle.qm_history.specs.Histories.{without_plan, HasName, HasInput, HasText, AllHaveText, HasCleanReply, AllHaveCleanReplies, IsHistory, whole_text_of}
 use Rattle.qm_history.proofs.EntryLines.{whole-told}
 use Rattle.qm_history.proofs.FormLaws.{lines-append}
 use Rattle.qm_history.proofs.Greeting.{greeting-line}
@@ -86,18 +86,18 @@ more-line false cs taken line most one are = record { each = are.each; few = ome
 same-lines : (cs : List Candidate) (most : ℕ) → AreLines cs most → AreLines cs (suc most)
 same-lines cs most are = record { each = are.each; few = omega (arith, are.few) }
 
-candidates-are : (s : ℕ) (past : List Entry) → AllHaveValues past → AreLines (candidates_of s past) (length past)
+candidates-are : (s : ℕ) (past : List Entry) → AllHaveCleanReplies past → AreLines (candidates_of s past) (length past)
 candidates-are s [] h = record { each = tt; few = omega arith }
 candidates-are s (Open t ∷ past) h = more-line _ (candidates_of s past) (taken_of s past) _ (length past) greeting-line (candidates-are s past h.1)
 candidates-are s (Admit t k lane input ∷ past) h = same-lines (candidates_of s past) (length past) (candidates-are s past h.1)
 candidates-are s (Start t k ∷ past) h = same-lines (candidates_of s past) (length past) (candidates-are s past h.1)
-candidates-are s (Done t k plan reply moment ∷ past) h = more-line _ (candidates_of s past) (taken_of s past) _ (length past) (printed-line reply h.0.clean) (candidates-are s past h.1)
-candidates-are s (OobDone t k plan reply moment ∷ past) h = more-line _ (candidates_of s past) (taken_of s past) _ (length past) (printed-line reply h.0.clean) (candidates-are s past h.1)
+candidates-are s (Done t k plan reply moment ∷ past) h = more-line _ (candidates_of s past) (taken_of s past) _ (length past) (printed-line reply h.0) (candidates-are s past h.1)
+candidates-are s (OobDone t k plan reply moment ∷ past) h = more-line _ (candidates_of s past) (taken_of s past) _ (length past) (printed-line reply h.0) (candidates-are s past h.1)
 candidates-are s (Take t lines ∷ past) h = same-lines (candidates_of s past) (length past) (candidates-are s past h.1)
 candidates-are s (Eof t ∷ past) h = same-lines (candidates_of s past) (length past) (candidates-are s past h.1)
 candidates-are s (Drop t cause ∷ past) h = same-lines (candidates_of s past) (length past) (candidates-are s past h.1)
 
-untaken-lines : (s : ℕ) (past : List Entry) → AllHaveValues past → AllLines (untaken_of s past) × (length (untaken_of s past) ≤ length past)
+untaken-lines : (s : ℕ) (past : List Entry) → AllHaveCleanReplies past → AllLines (untaken_of s past) × (length (untaken_of s past) ≤ length past)
 untaken-lines s past h =
     let are = candidates-are s past h in
     let front = while-lines _ (candidates_of s past) are.each in (
@@ -107,13 +107,13 @@ untaken-lines s past h =
 
 -- entries
 
-input-has : (past : List Entry) (s k : ℕ) (lane : Lane) (input : Input) → MayAdmit past s k lane input → IsShallow input → HasInput lane input
-input-has past s k lane (Doc value) may shallow = record { clean = may.clean; shallow = shallow }
-input-has past s k lane (Bad bad) may shallow = subst (λ (l : Lane). HasInput l (Bad bad)) (sym may.in_lane) may.clean
+input-has : (past : List Entry) (s k : ℕ) (lane : Lane) (input : Input) → MayAdmit past s k lane input → HasInput lane input
+input-has past s k lane (Doc value) may = may.clean
+input-has past s k lane (Bad bad) may = subst (λ (l : Lane). HasInput l (Bad bad)) (sym may.in_lane) may.clean
 
-entry-text : (past : List Entry) (e : Entry) → AllFollow past → MayFollow past e → length past + 1 < 2 ^ 64 → AllHaveValues past → HasValues e → HasText (without_plan e)
+entry-text : (past : List Entry) (e : Entry) → AllFollow past → MayFollow past e → length past + 1 < 2 ^ 64 → AllHaveCleanReplies past → HasCleanReply e → HasText (without_plan e)
 entry-text past (Open s) legal may short values h = omega (arith, may.few)
-entry-text past (Admit s k lane input) legal may short values h = record { request = admit-name past s k lane input legal short may; value = input-has past s k lane input may h }
+entry-text past (Admit s k lane input) legal may short values h = record { request = admit-name past s k lane input legal short may; value = input-has past s k lane input may }
 entry-text past (Start s k) legal may short values h =
     let b = begins past s k may in
     let each = subst (λ l. Each (IsSmall InBand) l) b.waiting ((all-small past legal (omega (arith, short))).waits s) in
@@ -122,13 +122,13 @@ entry-text past (Done s k plan reply moment) legal may short values h = record {
   request = named-small (running_of past) s k may.running (all-small past legal (omega (arith, short))).runs;
   planless = refl;
   below = may.timed.below;
-  value = h;
+  clean = h;
 }
 entry-text past (OobDone s k plan reply moment) legal may short values h = record {
   request = named-small (open_out_of_band_of s past) s k may.request ((all-small past legal (omega (arith, short))).opens s);
   planless = refl;
   below = may.timed.below;
-  value = h;
+  clean = h;
 }
 entry-text past (Take s lines) legal may short values h =
     let untaken = untaken-lines s past values in
@@ -139,7 +139,7 @@ entry-text past (Take s lines) legal may short values h =
 entry-text past (Eof s) legal may short values h = session-small s past legal may.is_open
 entry-text past (Drop s cause) legal may short values h = session-small s past legal may.is_open
 
-journal-text : (journal past : List Entry) → AllFollow (reverse journal ++ past) → length past + length journal < 2 ^ 64 → AllHaveValues past → AllHaveValues journal → AllHaveText (map without_plan journal)
+journal-text : (journal past : List Entry) → AllFollow (reverse journal ++ past) → length past + length journal < 2 ^ 64 → AllHaveCleanReplies past → AllHaveCleanReplies journal → AllHaveText (map without_plan journal)
 journal-text [] past legal short values h = tt
 journal-text (e ∷ journal) past legal short values h =
     let all : AllFollow (reverse journal ++ e ∷ past) = subst AllFollow (turned e journal past) legal in
@@ -147,6 +147,6 @@ journal-text (e ∷ journal) past legal short values h =
     (entry-text past e here.1 here.0 (omega (arith, short)) values h.0, journal-text journal (e ∷ past) all (omega (arith, short)) (h.0, values) h.1)
 
 -- the text of a legal journal is the history of its entries without their plans
-pub legal-told : (world : World) (journal : List Entry) → IsLegal world journal → length journal < 2 ^ 64 → AllHaveValues journal → IsHistory (whole_text_of journal) (map without_plan journal)
+pub legal-told : (world : World) (journal : List Entry) → IsLegal world journal → length journal < 2 ^ 64 → AllHaveCleanReplies journal → IsHistory (whole_text_of journal) (map without_plan journal)
 legal-told world journal legal short values =
     whole-told journal (journal-text journal [] (subst AllFollow (sym (append-nil (reverse journal))) legal.ordered) (omega (arith, short)) tt values)

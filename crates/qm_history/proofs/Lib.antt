@@ -1,4 +1,5 @@
 pub mod Cuts
+pub mod Depths
 pub mod Digits
 pub mod EntryLines
 pub mod EntryTexts

@@ -4,7 +4,7 @@ use Rattle.std.specs.Prelude.{nat_eq, Result, Ok, Err, ℕ, if◌then◌else◌,
 use Rattle.std.specs.{Fmt.decimal, List.starts_with, Option.option_and_then, Str.bytes_eq}
 use Rattle.qm_base.specs.Numerals.{number_of}
 use Rattle.qm_json.specs.declared.value.Json.{Json}
-use Rattle.qm_read.specs.{declared.fault.JsonFault.JsonFault, Faults.reading_of}
+use Rattle.qm_read.specs.{declared.fault.JsonFault.JsonFault, Faults.reading_within}
 use Rattle.qm_caps.specs.declared.mode.Lane.{Lane, TheVariants.InBand, TheVariants.Oob}
 use Rattle.qm_core.specs.Texts.{cause_of, frame_word_of, lane_word_of, request_text_of}
 use Rattle.qm_core.specs.declared.entries.Entry.{Entry, TheVariants.Open, TheVariants.Admit, TheVariants.Start, TheVariants.Done, TheVariants.OobDone, TheVariants.Take, TheVariants.Eof, TheVariants.Drop}
@@ -61,9 +61,9 @@ abbrev pub read_value : Result Json JsonFault → Option Json
 read_value (Ok value) = Some value
 read_value (Err fault) = None
 
--- a value in any spelling
+-- a value in any spelling, nested however deeply: no text opens more brackets than it has bytes
 abbrev pub value_in : List ℕ → Option Json
-value_in text = read_value (reading_of text)
+value_in text = read_value (reading_within (length text) text)
 
 -- `S K @M REPLY`
 abbrev pub answer_value : ℕ → ℕ → ℕ → List ℕ → Option Answer

@@ -1,15 +1,14 @@
 -- Texts of histories: the lines of entries, and a last line that counts them (this project's own rule).
 -- An entry is read back without its plan, which has no text.
-use Rattle.std.specs.Prelude.{◌≡◌, ℕ, ◌+◌, ◌^◌, ◌<◌, ◌≤◌, List, [], ◌∷◌, ◌++◌, length, codes, Option, None, Result, Ok, Err}
+use Rattle.std.specs.Prelude.{◌≡◌, ℕ, ◌+◌, ◌-◌, ◌^◌, ◌<◌, min, List, [], ◌∷◌, ◌++◌, length, codes, Option, None, Result, Ok, Err}
 use Rattle.std.specs.Fmt.{decimal}
-use Rattle.qm_json.specs.{Cleanness.IsClean, Nesting.depth, declared.value.Json.Json}
+use Rattle.qm_json.specs.{Cleanness.IsClean, declared.value.Json.Json}
 use Rattle.qm_caps.specs.declared.mode.Lane.{Lane, TheVariants.InBand, TheVariants.Oob}
 use Rattle.qm_plan.specs.declared.recipes.Plan.{Plan}
 use Rattle.qm_core.specs.Inputs.{IsPlaceable}
 use Rattle.qm_core.specs.Texts.{text_of}
 use Rattle.qm_core.specs.declared.entries.Entry.{Entry, TheVariants.Open, TheVariants.Admit, TheVariants.Start, TheVariants.Done, TheVariants.OobDone, TheVariants.Take, TheVariants.Eof, TheVariants.Drop}
 use Rattle.qm_core.specs.declared.inputs.Input.{Input, TheVariants.Doc, TheVariants.Bad}
-use Rattle.qm_frame.specs.declared.step.TheConstants.{MAX_DEPTH}
 use Rattle.qm_history.specs.Lines.{AllLines, lines_of}
 use Rattle.qm_history.specs.declared.reading.HistoryRefusal.{HistoryRefusal, TheVariants.Line, TheVariants.Memory}
 
@@ -19,29 +18,24 @@ without_plan (Done s k plan reply moment) = Done s k None reply moment
 without_plan (OobDone s k plan reply moment) = OobDone s k None reply moment
 without_plan e = e
 
--- what has a text that can be read back: numbers have their bits, values are clean and not too deep, no
--- line that was handed out has an LF, and plans are wanting
+-- what has a text that can be read back: numbers have their bits, values are clean, no line that was
+-- handed out has an LF, and plans are wanting
 
 -- two numbers
 pub record HasName (s k : ℕ) : Type 0 where
   pub session : s < 2 ^ 32
   pub number : k < 2 ^ 64
 
--- a value
-pub record HasValue (value : Json) : Type 0 where
-  pub clean : IsClean value
-  pub shallow : depth value ≤ MAX_DEPTH
-
 -- a request and its reply
 pub record HasAnswer (s k : ℕ) (plan : Option Plan) (reply : Json) (moment : ℕ) : Type 0 where
   pub request : HasName s k
   pub planless : plan ≡ None
   pub below : moment < 2 ^ 64
-  pub value : HasValue reply
+  pub clean : IsClean reply
 
 -- an input in its lane: what is no value is admitted in band alone
 abbrev pub HasInput : Lane → Input → Type 0
-HasInput lane (Doc value) = HasValue value
+HasInput lane (Doc value) = IsClean value
 HasInput InBand (Bad bad) = IsPlaceable bad
 HasInput Oob (Bad bad) = ⊥
 
@@ -70,21 +64,15 @@ abbrev pub AllHaveText : List Entry → Type 0
 AllHaveText [] = Unit {0}
 AllHaveText (e ∷ entries) = HasText e × AllHaveText entries
 
--- the values of a legal journal that can be read back: those that were admitted are clean
+-- a reply is clean, as what a legal journal admits is without this
+abbrev pub HasCleanReply : Entry → Type 0
+HasCleanReply (Done s k plan reply moment) = IsClean reply
+HasCleanReply (OobDone s k plan reply moment) = IsClean reply
+HasCleanReply e = Unit {0}
 
-abbrev pub IsShallow : Input → Type 0
-IsShallow (Doc value) = depth value ≤ MAX_DEPTH
-IsShallow (Bad bad) = Unit {0}
-
-abbrev pub HasValues : Entry → Type 0
-HasValues (Admit s k lane input) = IsShallow input
-HasValues (Done s k plan reply moment) = HasValue reply
-HasValues (OobDone s k plan reply moment) = HasValue reply
-HasValues e = Unit {0}
-
-abbrev pub AllHaveValues : List Entry → Type 0
-AllHaveValues [] = Unit {0}
-AllHaveValues (e ∷ entries) = HasValues e × AllHaveValues entries
+abbrev pub AllHaveCleanReplies : List Entry → Type 0
+AllHaveCleanReplies [] = Unit {0}
+AllHaveCleanReplies (e ∷ entries) = HasCleanReply e × AllHaveCleanReplies entries
 
 -- the line after the entries, which counts them
 abbrev pub end_line : ℕ → List ℕ
@@ -114,8 +102,14 @@ pub data FirstWrong : List ℕ → ℕ → Type 0 where
   short : {text : List ℕ} → BeginHistory (lines_of text) → ((entries : List Entry) → IsHistory text entries → ⊥) →
       FirstWrong text (length (lines_of text) + 1)
 
+-- the number of the first wrong line, told as far as 32 bits tell it
+pub record IsFirstWrong (text : List ℕ) (told : ℕ) : Type 0 where
+  pub line : ℕ
+  pub wrong : FirstWrong text line
+  pub is : told ≡ min line (2 ^ 32 - 1)
+
 -- what a text is read back as
 abbrev pub Reads : List ℕ → Result (List Entry) HistoryRefusal → Type 0
 Reads text (Ok entries) = IsHistory text entries
-Reads text (Err (Line line)) = FirstWrong text line
+Reads text (Err (Line told)) = IsFirstWrong text told
 Reads text (Err Memory) = Unit {0}

@@ -11,7 +11,7 @@ use qm_base::{NoMemory, Shared, Text, number};
 use qm_caps::Lane;
 use qm_core::{BadInput, Cause, Entry, FrameWord, Input, JsonWord, lane_word};
 use qm_json::Json;
-use qm_read::{JsonFault, read};
+use qm_read::{JsonFault, read_within};
 use std::alloc::Global;
 
 /// What the first line of an entry says: the whole entry, or how many lines follow it.
@@ -94,7 +94,7 @@ fn answer_value(
 ) -> Result<Option<Answer>, NoMemory>
     ensures { IfOk result (λ answer. answer ≡ answer_value_of session number moment text.now) }
 {
-    match read(alloc, text) {
+    match read_within(alloc, text, text.len()) {
         Ok(reply) => Ok(Some(Answer {
             session,
             number,
@@ -243,7 +243,7 @@ fn bad(text: &[u8]) -> Option<BadInput>
 fn document(alloc: Global, text: &[u8]) -> Result<Option<Input>, NoMemory>
     ensures { IfOk result (λ input. input ≡ document_in text.now) }
 {
-    match read(alloc, text) {
+    match read_within(alloc, text, text.len()) {
         Ok(value) => match Shared::new(alloc, value) {
             Ok(value) => Ok(Some(Input::Doc(value))),
             Err(NoMemory) => Err(NoMemory),

@@ -1,4 +1,4 @@
-ghost use Rattle.std.specs.Prelude.{◌≡◌, ℕ, List, Err, ◌<◌, ◌≤◌, ◌+◌, ◌++◌, [], ◌∷◌, drop, length, position, IfOk, IfSome};
+ghost use Rattle.std.specs.Prelude.{◌≡◌, ℕ, List, Err, ◌<◌, ◌≤◌, ◌+◌, ◌-◌, ◌^◌, min, ◌++◌, [], ◌∷◌, drop, length, position, IfOk, IfSome};
 ghost use Rattle.std.specs.Str.{bytes_eq};
 ghost use Rattle.qm_history.specs.declared.reading.Reading.TheVariants.{Between, Within};
 ghost use Rattle.qm_history.specs.Histories.{FirstWrong, Reads, end_line};
@@ -17,7 +17,7 @@ pub type EntryWordList = GrowingList<Entry>;
 /// Why a text is the history of no entries.
 #[derive(Clone, Copy, Debug, PartialEq, Eq)]
 pub enum HistoryRefusal {
-    /// The number of the first line that cannot stand.
+    /// The number of the first line that cannot stand; past 2^32-1 it is that number.
     Line(u32),
     /// No memory was left.
     Memory,
@@ -165,22 +165,22 @@ fn past(text: &[u8], place: usize) -> &[u8]
     &text[place..]
 }
 
-/// The refusal of the line after so many. A number past 2^32-1 cannot be told.
+fn told_number(lines: usize) -> u32
+    ensures { result ≡ min (lines + 1) (2 ^ 32 - 1) }
+{
+    lines.saturating_add(1).min(u32::MAX as usize) as u32
+}
+
+/// The refusal of the line after so many.
 fn refusal(lines: usize) -> HistoryRefusal
     ensures { (text : List ℕ) → FirstWrong text (lines + 1) → Reads text (Err result) }
 {
-    match u32::try_from(lines) {
-        Ok(lines) => match lines.checked_add(1) {
-            Some(line) => HistoryRefusal::Line(line),
-            None => HistoryRefusal::Memory,
-        },
-        Err(_) => HistoryRefusal::Memory,
-    }
+    HistoryRefusal::Line(told_number(lines))
 }
 
 /// The entries of which the text is the whole history, without their plans; or the number of the
-/// first line that cannot stand. A line that is wanting, or lacks its LF, cannot stand. A number
-/// past 2^32-1 is told as want of memory.
+/// first line that cannot stand. A line that is wanting, or lacks its LF, cannot stand. Values are
+/// nested however deeply.
 pub fn read_history(alloc: Global, text: &[u8]) -> Result<EntryWordList, HistoryRefusal>
     ensures { Reads text.now result }
 {

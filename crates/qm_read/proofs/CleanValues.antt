@@ -8,7 +8,7 @@ use Rattle.qm_json.specs.{declared.value.Json.Json, declared.value.Member.Member
 use Rattle.qm_json.proofs.CleanLaws.{is_clean-Null, is_clean-Bool, is_clean-Int, is_clean-Num, is_clean-Str, is_clean-Arr, is_clean-Obj, is_clean_member-is}
 use Rattle.qm_json.proofs.Distinct.{names, distinct-more}
 use Rattle.qm_read.specs.declared.token.Token.TheVariants as tokens
-use Rattle.qm_read.specs.{declared.fault.JsonFault.JsonFault, Texts.Spells, Texts.HasFault, Texts.IsWithin}
+use Rattle.qm_read.specs.{declared.fault.JsonFault.JsonFault, Texts.SpellsWithin, Texts.HasFaultWithin, Texts.IsWithin}
 use Rattle.qm_read.specs.{Viable.FirstFault, Viable.wrong, Viable.misplaced, Viable.twice, Viable.short, Tokens.Placed, Tokens.at, Tokens.tokens_of}
 use Rattle.qm_read.specs.Spelling.{SpellsValue, null, bool, int, num, string, no_items, array, no_members, object, SpellsItems, item, more_items, SpellsMembers, member, more_members}
 use Rattle.qm_read.proofs.CleanTokens.{AreSound, sound-front, sound-rest, tokens-sound}
@@ -50,18 +50,18 @@ module _ (n : ℕ) where
     distinct (more_members {members = members} {v = v} name o p q ms fresh s) = distinct-more members (record { name = name; value = v }) (distinct ms) fresh
 
 -- what the tokens of a text spell is clean
-pub spelled-clean : (text : List ℕ) (v : Json) → Spells text v → IsClean v
-spelled-clean text v s = clean (length text) s (tokens-sound text)
+pub spelled-clean : (limit : ℕ) (text : List ℕ) (v : Json) → SpellsWithin limit text v → IsClean v
+spelled-clean limit text v s = clean (length text) s (tokens-sound text)
 
-first-within : (ts : List Placed) (n : ℕ) (f : JsonFault) → FirstFault ts n f → AreSound n ts → IsWithin n f
-first-within ts n f (wrong before rest fault p b) h = (sound-rest n before (at (tokens.Bad fault) p ∷ rest) h).0.token
-first-within ts n f (misplaced before rest token p b m) h = omega (arith, (sound-rest n before (at token p ∷ rest) h).0.place)
-first-within ts n f (twice before rest name other p m b) h = (sound-rest n before (at (tokens.Str name) p ∷ rest) h).0.place
-first-within ts n f (short us b m) h = omega arith
+first-within : (limit : ℕ) (ts : List Placed) (n : ℕ) (f : JsonFault) → FirstFault limit ts n f → AreSound n ts → IsWithin n f
+first-within limit ts n f (wrong before rest fault p b) h = (sound-rest n before (at (tokens.Bad fault) p ∷ rest) h).0.token
+first-within limit ts n f (misplaced before rest token p b m) h = omega (arith, (sound-rest n before (at token p ∷ rest) h).0.place)
+first-within limit ts n f (twice before rest name other p m b) h = (sound-rest n before (at (tokens.Str name) p ∷ rest) h).0.place
+first-within limit ts n f (short us b m) h = omega arith
 
 -- the first fault of a text lies in it
-pub fault-within : (text : List ℕ) (f : JsonFault) → HasFault text f → IsWithin (length text) f
-fault-within text f h = first-within (tokens_of text) (length text) f h (tokens-sound text)
+pub fault-within : (limit : ℕ) (text : List ℕ) (f : JsonFault) → HasFaultWithin limit text f → IsWithin (length text) f
+fault-within limit text f h = first-within limit (tokens_of text) (length text) f h (tokens-sound text)
 
 mutual
   pub nested : {d : ℕ} {ts : List Placed} {v : Json} → SpellsValue d ts v → depth v ≤ d

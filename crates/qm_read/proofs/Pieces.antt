@@ -60,59 +60,60 @@ spaces place (x ∷ text) = by (is_space x) refl
         rw one (sym (ap (λ (l : Lexeme). with_later l place (λ k. walk tokens_here [] k (place + 1) text)) (cond-true (is_space x) _ _ e)))
     by false e = refl
 
--- n is the length of the whole text, and what it is read as is the answer
-module _ (n : ℕ) (answer : Result Json JsonFault) where
+-- at most so many brackets are open at a time, n is the length of the whole text, and what it is
+-- read as is the answer
+module _ (limit n : ℕ) (answer : Result Json JsonFault) where
   -- what a text that ends the whole is read as, from a state and a place on
   abbrev pub read_from : State → ℕ → List ℕ → Result Json JsonFault
-  read_from s place text = ended (run s (tokens_from place text)) n
+  read_from s place text = ended (run limit s (tokens_from place text)) n
 
   -- from the state the text leads to the answer
   abbrev pub Leads : State → List ℕ → Type 0
   Leads s text = (place : ℕ) → read_from s place text ≡ answer
 
   -- a token, and what follows the bytes that it takes after its first
-  token-leads : (s next : State) (t : Token) (place k : ℕ) (text rest : List ℕ) → drop k text ≡ rest → step s t place ≡ Ok next → Leads next rest → ended (run s (at t place ∷ walk tokens_here [] k (place + 1) text)) n ≡ answer
+  token-leads : (s next : State) (t : Token) (place k : ℕ) (text rest : List ℕ) → drop k text ≡ rest → step limit s t place ≡ Ok next → Leads next rest → ended (run limit s (at t place ∷ walk tokens_here [] k (place + 1) text)) n ≡ answer
   token-leads s next t place k text rest d e leads =
-      ap (λ (r : Result State JsonFault). ended (on r (λ next. run next (walk tokens_here [] k (place + 1) text))) n) e
-      ∙ ap (λ (ts : List Placed). ended (run next ts) n) (passed tokens_here [] k (place + 1) text ∙ ap (tokens_from (place + 1 + k)) d)
+      ap (λ (r : Result State JsonFault). ended (on r (λ next. run limit next (walk tokens_here [] k (place + 1) text))) n) e
+      ∙ ap (λ (ts : List Placed). ended (run limit next ts) n) (passed tokens_here [] k (place + 1) text ∙ ap (tokens_from (place + 1 + k)) d)
       ∙ leads (place + 1 + k)
 
   -- a run that begins with x
-  run-leads : (p : ℕ → Bool) (token : List ℕ → Token) (x place : ℕ) (more rest : List ℕ) (s next : State) → list_all p more ≡ true → IsPast p rest → step s (token (x ∷ more)) place ≡ Ok next → Leads next rest →
-      ended (run s (with_later (run_lexeme token x (more ++ rest) (prefix_len p (more ++ rest))) place (λ k. walk tokens_here [] k (place + 1) (more ++ rest)))) n ≡ answer
+  run-leads : (p : ℕ → Bool) (token : List ℕ → Token) (x place : ℕ) (more rest : List ℕ) (s next : State) → list_all p more ≡ true → IsPast p rest → step limit s (token (x ∷ more)) place ≡ Ok next → Leads next rest →
+      ended (run limit s (with_later (run_lexeme token x (more ++ rest) (prefix_len p (more ++ rest))) place (λ k. walk tokens_here [] k (place + 1) (more ++ rest)))) n ≡ answer
   run-leads p token x place more rest s next h past e leads =
       rw (run-length p more rest h past, take-append_seam more rest)
       (token-leads s next (token (x ∷ more)) place (length more) (more ++ rest) rest (drop-append_seam more rest) e leads)
 
-  pub number-leads : (text : List ℕ) (s next : State) (rest : List ℕ) → IsRun text → ((place : ℕ) → step s (number_token place text) place ≡ Ok next) → ends_run rest ≡ true → Leads next rest → Leads s (text ++ rest)
+  pub number-leads : (text : List ℕ) (s next : State) (rest : List ℕ) → IsRun text → ((place : ℕ) → step limit s (number_token place text) place ≡ Ok next) → ends_run rest ≡ true → Leads next rest → Leads s (text ++ rest)
   number-leads text s next rest h e k leads = λ place.
       let l : Lexeme = run_lexeme (number_token place) h.first (h.more ++ rest) (prefix_len in_number (h.more ++ rest)) in
       subst (λ (l : List ℕ). read_from s place (l ++ rest) ≡ answer) (sym h.is)
-      (ap (λ (l : Lexeme). ended (run s (with_later l place (λ k. walk tokens_here [] k (place + 1) (h.more ++ rest)))) n) (cond-false _ _ _ h.space ∙ cond-true _ l _ h.begins)
-      ∙ run-leads in_number (number_token place) h.first place h.more rest s next h.goes (past-number rest k) (ap (λ (l : List ℕ). step s (number_token place l) place) (sym h.is) ∙ e place) leads)
+      (ap (λ (l : Lexeme). ended (run limit s (with_later l place (λ k. walk tokens_here [] k (place + 1) (h.more ++ rest)))) n) (cond-false _ _ _ h.space ∙ cond-true _ l _ h.begins)
+      ∙ run-leads in_number (number_token place) h.first place h.more rest s next h.goes (past-number rest k) (ap (λ (l : List ℕ). step limit s (number_token place l) place) (sym h.is) ∙ e place) leads)
 
-  pub null-leads : (s next : State) (rest : List ℕ) → ((place : ℕ) → step s tokens.Null place ≡ Ok next) → ends_run rest ≡ true → Leads next rest → Leads s (codes "null" ++ rest)
+  pub null-leads : (s next : State) (rest : List ℕ) → ((place : ℕ) → step limit s tokens.Null place ≡ Ok next) → ends_run rest ≡ true → Leads next rest → Leads s (codes "null" ++ rest)
   null-leads s next rest e k leads = λ place. run-leads is_letter (word_token place) 110 place (codes "ull") rest s next refl (past-word rest k) (e place) leads
 
-  pub bool-leads : (b : Bool) (s next : State) (rest : List ℕ) → ((place : ℕ) → step s (tokens.Bool b) place ≡ Ok next) → ends_run rest ≡ true → Leads next rest → Leads s (cond b (codes "true") (codes "false") ++ rest)
+  pub bool-leads : (b : Bool) (s next : State) (rest : List ℕ) → ((place : ℕ) → step limit s (tokens.Bool b) place ≡ Ok next) → ends_run rest ≡ true → Leads next rest → Leads s (cond b (codes "true") (codes "false") ++ rest)
   bool-leads true s next rest e k leads = λ place. run-leads is_letter (word_token place) 116 place (codes "rue") rest s next refl (past-word rest k) (e place) leads
   bool-leads false s next rest e k leads = λ place. run-leads is_letter (word_token place) 102 place (codes "alse") rest s next refl (past-word rest k) (e place) leads
 
   -- a string in double quotes, by its bytes and what they stand for
-  string-goes : (raw bytes rest : List ℕ) (s next : State) (place : ℕ) → stays false raw ≡ true → text_of place raw ≡ Ok bytes → step s (tokens.Str bytes) place ≡ Ok next → Leads next rest → read_from s place (34 ∷ (raw ++ 34 ∷ rest)) ≡ answer
+  string-goes : (raw bytes rest : List ℕ) (s next : State) (place : ℕ) → stays false raw ≡ true → text_of place raw ≡ Ok bytes → step limit s (tokens.Str bytes) place ≡ Ok next → Leads next rest → read_from s place (34 ∷ (raw ++ 34 ∷ rest)) ≡ answer
   string-goes raw bytes rest s next place h t e leads =
       let more : min (length raw + 1) (length (raw ++ 34 ∷ rest)) ≡ length raw + 1 = omega (arith, length-append raw (34 ∷ rest)) in
       rw (ends-at false raw rest h, more, take-append_seam raw (34 ∷ rest), drop-append_seam raw (34 ∷ rest), t)
       (token-leads s next (tokens.Str bytes) place (length raw + 1) (raw ++ 34 ∷ rest) rest (drop-append-add raw (34 ∷ rest) 1) e leads)
 
-  pub string-leads : (bytes : List ℕ) (s next : State) (rest : List ℕ) → IsUtf8 bytes → ((place : ℕ) → step s (tokens.Str bytes) place ≡ Ok next) → Leads next rest → Leads s (quoted bytes ++ rest)
+  pub string-leads : (bytes : List ℕ) (s next : State) (rest : List ℕ) → IsUtf8 bytes → ((place : ℕ) → step limit s (tokens.Str bytes) place ≡ Ok next) → Leads next rest → Leads s (quoted bytes ++ rest)
   string-leads bytes s next rest u e leads = λ place.
       let text : List ℕ = escapes (code_points bytes) in
       ap (λ (l : List ℕ). read_from s place (34 ∷ l)) (append_assoc text (34 ∷ []) rest)
       ∙ string-goes text bytes rest s next place (points-inside bytes u) (points-read bytes place u) (e place) leads
 
   pub space-leads : (s : State) (text : List ℕ) → Leads s text → Leads s (32 ∷ text)
-  space-leads s text leads = λ place. ap (λ (ts : List Placed). ended (run s ts) n) (spaces (place + 1) text) ∙ leads (place + 1)
+  space-leads s text leads = λ place. ap (λ (ts : List Placed). ended (run limit s ts) n) (spaces (place + 1) text) ∙ leads (place + 1)
 
   -- a text after a comma and a space
   pub comma-leads : (stack : List Open) (text : List ℕ) (texts : List (List ℕ)) (rest : List ℕ) → Leads (record { stack = stack; expect = stacks.after_comma stack }) (text ++ (flat_map after_comma texts ++ rest)) → Leads (record { stack = stack; expect = CommaOrEnd }) (flat_map after_comma (text ∷ texts) ++ rest)

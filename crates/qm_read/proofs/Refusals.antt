@@ -4,7 +4,6 @@ use Rattle.std.proofs.Common.{◌≡◌, ℕ, ◌≤◌, ◌<◌, Bool, true, fa
 use Rattle.std.specs.Str.{bytes_eq}
 use Rattle.std.proofs.lemmas.Slice.Eq.{bytes_eq-Decides}
 use Rattle.qm_json.specs.{declared.value.Member.Member, Members.has_name}
-use Rattle.qm_frame.specs.declared.step.TheConstants.{MAX_DEPTH}
 use Rattle.qm_json.specs.declared.value.Json.TheVariants as json
 use Rattle.qm_read.specs.declared.fault.JsonFault.{JsonFault, TheVariants.Expected, TheVariants.Duplicate}
 use Rattle.qm_read.specs.declared.stack.{Expect.Expect, Expect.TheVariants.Colon, Expect.TheVariants.CommaOrEnd, Open.Open}
@@ -71,16 +70,16 @@ IsPlain (tokens.Bad fault) = ⊥
 IsPlain (tokens.Str text) = ⊥
 IsPlain _ = Unit {0}
 
-pub refuses : (s : State) (k : Token) (p : ℕ) → IsPlain k → Refuses (step s k p) p
-refuses s (tokens.Bad fault) p plain = absurd plain
-refuses s (tokens.Str text) p plain = absurd plain
-refuses s tokens.OpenArray p plain = unless (takes_value s.expect && nat_lt (length s.stack) (MAX_DEPTH + 1)) _ p tt
-refuses s tokens.OpenObject p plain = unless (takes_value s.expect && nat_lt (length s.stack) (MAX_DEPTH + 1)) _ p tt
-refuses s tokens.CloseArray p plain = unless (ends_array s.expect) _ p (closes_array s.stack p)
-refuses s tokens.CloseObject p plain = unless (ends_object s.expect) _ p (closes_object s.stack p)
-refuses s tokens.Comma p plain = takes_comma s.expect s.stack p
-refuses s tokens.Colon p plain = takes_colon s.expect s.stack p
-refuses s _ p plain = unless (takes_value s.expect) _ p tt
+pub refuses : (limit : ℕ) (s : State) (k : Token) (p : ℕ) → IsPlain k → Refuses (step limit s k p) p
+refuses limit s (tokens.Bad fault) p plain = absurd plain
+refuses limit s (tokens.Str text) p plain = absurd plain
+refuses limit s tokens.OpenArray p plain = unless (takes_value s.expect && nat_lt (length s.stack) (limit + 1)) _ p tt
+refuses limit s tokens.OpenObject p plain = unless (takes_value s.expect && nat_lt (length s.stack) (limit + 1)) _ p tt
+refuses limit s tokens.CloseArray p plain = unless (ends_array s.expect) _ p (closes_array s.stack p)
+refuses limit s tokens.CloseObject p plain = unless (ends_object s.expect) _ p (closes_object s.stack p)
+refuses limit s tokens.Comma p plain = takes_comma s.expect s.stack p
+refuses limit s tokens.Colon p plain = takes_colon s.expect s.stack p
+refuses limit s _ p plain = unless (takes_value s.expect) _ p tt
 
 -- strings are refused: this one as a name that is there, while another is taken; or all of them
 pub record Taken (g : List ℕ → Result State JsonFault) : Type 0 where
@@ -110,8 +109,8 @@ name_or_value : (b : Bool) (s : State) (name : List ℕ) (p : ℕ) (f : JsonFaul
 name_or_value true s name p f e = name_refused s.stack name p f e
 name_or_value false s name p f e = value_refused (takes_value s.expect) s.stack name p f e
 
-pub string_refused : (s : State) (name : List ℕ) (p : ℕ) (f : JsonFault) → step s (tokens.Str name) p ≡ Err f → StrRefused (λ other. step s (tokens.Str other) p) p f
-string_refused s name p f e = name_or_value (takes_name s.expect) s name p f e
+pub string_refused : (limit : ℕ) (s : State) (name : List ℕ) (p : ℕ) (f : JsonFault) → step limit s (tokens.Str name) p ≡ Err f → StrRefused (λ other. step limit s (tokens.Str other) p) p f
+string_refused limit s name p f e = name_or_value (takes_name s.expect) s name p f e
 
 -- what is not whole at the end is refused there
 pub too_short : (stack : List Open) (n : ℕ) (f : JsonFault) → whole stack n ≡ Err f → f ≡ Expected n

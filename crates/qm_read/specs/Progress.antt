@@ -20,5 +20,5 @@ abbrev pub decoded_from : List ℕ → ℕ → List ℕ → Result (List ℕ) Js
 decoded_from text place bytes = followed_by text (text_after 0 place bytes)
 
 -- what a text is read as, after what led to a state
-abbrev pub reading_from : State → ℕ → List ℕ → Result Json JsonFault
-reading_from s place bytes = ended (run s (tokens_from place bytes)) (place + length bytes)
+abbrev pub reading_from : ℕ → State → ℕ → List ℕ → Result Json JsonFault
+reading_from limit s place bytes = ended (run limit s (tokens_from place bytes)) (place + length bytes)

@@ -7,12 +7,20 @@ use Rattle.qm_read.specs.declared.fault.JsonFault.{JsonFault, TheVariants.Expect
 use Rattle.qm_read.specs.{Spelling.SpellsValue, Tokens.tokens_of, Viable.FirstFault}
 
 -- the tokens of the text spell the value, nested at most so deep
-abbrev pub Spells : List ℕ → Json → Type 0
-Spells text value = SpellsValue MAX_DEPTH (tokens_of text) value
+abbrev pub SpellsWithin : ℕ → List ℕ → Json → Type 0
+SpellsWithin limit text value = SpellsValue limit (tokens_of text) value
 
--- the tokens of the text have this fault first
+-- the same of a value that is nested as deep as a message may be
+abbrev pub Spells : List ℕ → Json → Type 0
+Spells text value = SpellsWithin MAX_DEPTH text value
+
+-- the tokens of the text have this fault first, where values are nested at most so deep
+abbrev pub HasFaultWithin : ℕ → List ℕ → JsonFault → Type 0
+HasFaultWithin limit text fault = FirstFault limit (tokens_of text) (length text) fault
+
+-- the same where values are nested as deep as a message may be
 abbrev pub HasFault : List ℕ → JsonFault → Type 0
-HasFault text fault = FirstFault (tokens_of text) (length text) fault
+HasFault text fault = HasFaultWithin MAX_DEPTH text fault
 
 -- a fault of a text of this length: it stands at a byte of the text, or at its end
 abbrev pub IsWithin : ℕ → JsonFault → Type 0

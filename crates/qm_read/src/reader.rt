@@ -11,7 +11,6 @@ use crate::named_members::NamedMembers;
 use crate::stack::{Expect, Open};
 use crate::token::Token;
 use qm_base::{NoMemory, Text};
-use qm_frame::MAX_DEPTH;
 use qm_json::Json;
 use sqlite_items::Items;
 use std::alloc::Global;
@@ -137,10 +136,11 @@ impl Reader {
         Ok(())
     }
 
-    fn open(&mut self, top: Open, next: Expect, place: u64) -> Result<(), JsonFault>
-        ensures { Steps (steps.open_step self.old top next place) result self.new }
+    /// Opens a bracket, where fewer than so many are open.
+    fn open(&mut self, limit: usize, top: Open, next: Expect, place: u64) -> Result<(), JsonFault>
+        ensures { Steps (steps.open_step limit self.old top next place) result self.new }
     {
-        if !takes_value(self.expect) || self.outer.len() >= MAX_DEPTH {
+        if !takes_value(self.expect) || self.outer.len() >= limit {
             return Err(JsonFault::Expected(place));
         }
         let outer = mem::replace(&mut self.current, top);
@@ -170,7 +170,7 @@ impl Reader {
     }
 
     fn close_array(&mut self, place: u64) -> Result<(), JsonFault>
-        ensures { Steps (step self.old Token.CloseArray place) result self.new }
+        ensures { Steps (steps.array_end_step self.old place) result self.new }
     {
         if !ends_array(self.expect) {
             return Err(JsonFault::Expected(place));
@@ -182,7 +182,7 @@ impl Reader {
     }
 
     fn close_object(&mut self, place: u64) -> Result<(), JsonFault>
-        ensures { Steps (step self.old Token.CloseObject place) result self.new }
+        ensures { Steps (steps.object_end_step self.old place) result self.new }
     {
         if !ends_object(self.expect) {
             return Err(JsonFault::Expected(place));
@@ -194,7 +194,7 @@ impl Reader {
     }
 
     fn comma(&mut self, place: u64) -> Result<(), JsonFault>
-        ensures { Steps (step self.old Token.Comma place) result self.new }
+        ensures { Steps (steps.comma_step self.old.expect self.old.stack place) result self.new }
     {
         if !matches!(self.expect, Expect::CommaOrEnd) {
             return Err(JsonFault::Expected(place));
@@ -204,7 +204,7 @@ impl Reader {
     }
 
     fn colon(&mut self, place: u64) -> Result<(), JsonFault>
-        ensures { Steps (step self.old Token.Colon place) result self.new }
+        ensures { Steps (steps.colon_step self.old.expect self.old.stack place) result self.new }
     {
         if !matches!(self.expect, Expect::Colon) {
             return Err(JsonFault::Expected(place));
@@ -213,9 +213,9 @@ impl Reader {
         Ok(())
     }
 
-    /// Takes the next token.
-    pub fn push(&mut self, token: Token, place: u64) -> Result<(), JsonFault>
-        ensures { Steps (step self.old token place) result self.new }
+    /// Takes the next token, where so many brackets at most may be open at a time.
+    pub fn push(&mut self, limit: usize, token: Token, place: u64) -> Result<(), JsonFault>
+        ensures { Steps (step limit self.old token place) result self.new }
     {
         match token {
             Token::Null => self.value(Json::Null, place),
@@ -230,11 +230,13 @@ impl Reader {
                 }
             }
             Token::OpenArray => self.open(
+                limit,
                 Open::Arr(Items::new(self.alloc)),
                 Expect::ValueOrEnd,
                 place,
             ),
             Token::OpenObject => self.open(
+                limit,
                 Open::Obj(NamedMembers::new(self.alloc), Text::new(self.alloc)),
                 Expect::NameOrEnd,
                 place,
