@@ -21,7 +21,6 @@ Comes past (Start s k) = MayStart past s k
 Comes past (Done s k plan reply moment) = MayFinish past s k moment
 Comes past (OobDone s k plan reply moment) = MayFinishOob past s k moment
 Comes past (Tick moment) = Ticks past moment
-Comes past (Tick moment) = MayEnd past s
 Comes past (Take s lines) = OfOpen past s
 Comes past (Eof s) = MayEnd past s
 Comes past (Drop s cause) = OfOpen past s
@@ -38,7 +37,6 @@ comes world past (Start s k) may = may
 comes world past (Done s k plan reply moment) may = may
 comes world past (OobDone s k plan reply moment) may = may
 comes world past (Tick moment) may = record { going = may.going; timed = may.timed }
-comes world past (Tick moment) may = may
 comes world past (Take s lines) may = record { is_open = may.is_open }
 comes world past (Eof s) may = may
 comes world past (Drop s cause) may = record { is_open = may.is_open }

@@ -1,9 +1,9 @@
 -- What the fields of a monitor keep of its journal (this project's own rule). This serves private functions.
 use Rattle.std.specs.Prelude.{◌≡◌, ℕ, ◌+◌, ◌≤◌, ◌<◌, Bool, true, false, List, ◌∷◌, length, map, Option, IfSome, Result, IfOk}
 use Rattle.std.specs.{Result.result_err}
-use Rattle.qm_core.specs.{Legal.past_of, Legal.IsLegal, Legal.HasRoom, Legal.IsWithin, Legal.is_within, Next.View, Next.Step, Next.full_refusal, Next.refusal_of}
+use Rattle.qm_core.specs.{Legal.past_of, Legal.IsLegal, Legal.HasRoom, Legal.IsWithin, Legal.is_within, Machines.Holds, Next.View, Next.Step, Next.full_refusal, Next.refusal_of}
 use Rattle.qm_core.specs.Standing.{sessions_of, was_opened, is_dropped, is_stopped, open_count_of, running_of, last_moment_of}
-use Rattle.qm_core.specs.{Planned.command_in, Sessions.Kept, Sessions.OfOpen, Sessions.OfClosed, Sessions.kept_at, Sessions.turn_at, State.state_of, Texts.entry_text_of, Texts.text_of}
+use Rattle.qm_core.specs.{Planned.command_in, Sessions.Kept, Sessions.OfOpen, Sessions.OfClosed, Sessions.kept_at, Sessions.turn_at, Texts.entry_text_of, Texts.text_of}
 use Rattle.qm_core.specs.declared.{TheConstants.MOST_ENTRIES, TheConstants.MOST_TEXT, entries.Entry.Entry, entries.StepFault.StepFault, monitor.Monitor.TheInside.Inside as Fields, requests.Request.Request, sessions.Place.Place, sessions.Place.TheVariants.Open, sessions.Place.TheVariants.Closed, world.World.World}
 
 abbrev pub view_of : Fields → View
@@ -37,7 +37,8 @@ pub record IsSound (m : Fields) : Type 0 where
   pub running : IsRunning m.world (past_of m.journal.items) m.running m.command
   pub moment : m.last_moment ≡ last_moment_of (past_of m.journal.items)
   pub stopped : m.stopped ≡ is_stopped (past_of m.journal.items)
-  pub store : m.store ≡ (state_of m.world (past_of m.journal.items)).store
+  pub machine : Holds m.world (past_of m.journal.items) m.machine
+  pub each : length m.world.binding.periods ≡ length m.world.schema.events
 
 -- the refusal of a step
 abbrev pub refusal_in : View → Step → Option StepFault

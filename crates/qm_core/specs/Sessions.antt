@@ -85,6 +85,15 @@ sent session line = record session {
   overrun = session.overrun || not (fits session.outbox line);
 }
 
+-- lines one after the other
+abbrev pub sent_all : Session → List (List ℕ) → Session
+sent_all session [] = session
+sent_all session (line ∷ lines) = sent_all (sent session line) lines
+
+-- a session that is sent the lines of events, of which it hears in a command mode
+abbrev pub told_events : List (List ℕ) → Session → Session
+told_events lines session = if is_negotiating session.mode then session else sent_all session lines
+
 -- a session that is told the reply to its running request, which may open a command mode
 abbrev pub told_of : Option Plan → Bool → List ℕ → Session → Session
 told_of plan negotiates line session = record (sent session line) {
@@ -94,3 +103,7 @@ told_of plan negotiates line session = record (sent session line) {
 -- a session that is told the reply to its request that is open out of band
 abbrev pub told_out_of_band : List ℕ → Session → Session
 told_out_of_band line session = record (sent session line) { open_out_of_band = None }
+
+-- the same by the request's lane
+abbrev pub told_in : Lane → Option Plan → Bool → List ℕ → Session → Session
+told_in lane plan negotiates line session = if is_in_band lane then told_of plan negotiates line session else told_out_of_band line session

@@ -1,6 +1,6 @@
 //! Laws of every legal journal.
 
-ghost use Rattle.std.specs.Prelude.{◌≡◌, ◌<◌, ◌≤◌, ℕ, List, ◌∷◌, ◌++◌, codes, count_by, Option, true, false, option_map};
+ghost use Rattle.std.specs.Prelude.{◌≡◌, ◌<◌, ◌≤◌, ℕ, List, [], ◌∷◌, ◌++◌, codes, count_by, Option, true, false, option_map};
 ghost use Rattle.std.specs.List.{list_any};
 ghost use Rattle.qm_base.specs.Prefixes.{IsPrefix};
 ghost use Rattle.qm_caps.specs.declared.mode.Lane.{Lane, TheVariants.InBand, TheVariants.Oob};
@@ -19,7 +19,7 @@ ghost use Rattle.qm_core.specs.Planned.{call_of, planned_for, recipe_at};
 ghost use Rattle.qm_core.specs.Replies.{is_return};
 ghost use Rattle.qm_core.specs.Requests.{admits_request, names_out_of_band, replies_to, starts};
 ghost use Rattle.qm_core.specs.Standing.{drops, is_ready, is_stopped, mode_of};
-ghost use Rattle.qm_core.specs.State.{store_of};
+ghost use Rattle.qm_core.specs.State.{raises_at, state_of};
 ghost use Rattle.qm_core.specs.Transcript.{transcript_of, taken_of, untaken_of};
 ghost use Rattle.qm_core.specs.declared.TheConstants.{DROP_BYTES, MOST_ENTRIES, MOST_SESSIONS, MOST_TEXT, MOST_UNTAKEN};
 ghost use Rattle.qm_core.specs.declared.entries.Entry.{Entry, TheVariants.Admit, TheVariants.Start, TheVariants.Done, TheVariants.OobDone};
@@ -32,7 +32,7 @@ ghost use Rattle.qm_core.specs.declared.world.World.{World};
 /// answer to its request.
 pub fn each_entry_may_follow()
     ensures may { (world : World) (before : List Entry) (e : Entry) (after : List Entry) →
-        IsLegal world (before ++ e ∷ after) → MayFollow (past_of before) e }
+        IsLegal world (before ++ e ∷ after) → MayFollow world (past_of before) e }
     ensures answer { (world : World) (before : List Entry) (e : Entry) (after : List Entry) →
         IsLegal world (before ++ e ∷ after) → IsAnswer world (past_of before) e }
 {}
@@ -41,9 +41,9 @@ pub fn each_entry_may_follow()
 /// the rest of it.
 pub fn taken_lines_begin_the_transcript()
     ensures begins { (world : World) (s : ℕ) (journal : List Entry) → IsLegal world journal →
-        (let past = past_of journal in IsPrefix (taken_of s past) (transcript_of s past)) }
+        (let past = past_of journal in IsPrefix (taken_of s past) (transcript_of world s past)) }
     ensures whole { (world : World) (s : ℕ) (journal : List Entry) → IsLegal world journal →
-        (let past = past_of journal in taken_of s past ++ untaken_of s past ≡ transcript_of s past) }
+        (let past = past_of journal in taken_of s past ++ untaken_of world s past ≡ transcript_of world s past) }
 {}
 
 /// After each step of a monitor its journal is as legal as before.
@@ -53,13 +53,17 @@ pub fn a_step_keeps_the_journal_legal()
         IsLegal old.world old.journal → IsLegal new.world new.journal }
 {}
 
-/// A reply that is an error changes no cell, no tally and no session's mode, and does not stop the
-/// monitor.
+/// A reply that is an error changes no cell, no tally, no job and no session's mode, raises no event,
+/// and does not stop the monitor.
 pub fn failed_replies_change_nothing()
-    ensures store { (world : World) (past : List Entry) (s k : ℕ) (plan : Option Plan) (reply : Json) (moment : ℕ) →
-        is_return reply ≡ false → store_of world (Done s k plan reply moment ∷ past) ≡ store_of world past }
+    ensures state { (world : World) (past : List Entry) (s k : ℕ) (plan : Option Plan) (reply : Json) (moment : ℕ) →
+        is_return reply ≡ false → state_of world (Done s k plan reply moment ∷ past) ≡ state_of world past }
     ensures out_of_band { (world : World) (past : List Entry) (s k : ℕ) (plan : Option Plan) (reply : Json) (moment : ℕ) →
-        is_return reply ≡ false → store_of world (OobDone s k plan reply moment ∷ past) ≡ store_of world past }
+        is_return reply ≡ false → state_of world (OobDone s k plan reply moment ∷ past) ≡ state_of world past }
+    ensures raises { (world : World) (past : List Entry) (s k : ℕ) (plan : Option Plan) (reply : Json) (moment : ℕ) →
+        is_return reply ≡ false → raises_at world past (Done s k plan reply moment) ≡ [] }
+    ensures raises_out_of_band { (world : World) (past : List Entry) (s k : ℕ) (plan : Option Plan) (reply : Json) (moment : ℕ) →
+        is_return reply ≡ false → raises_at world past (OobDone s k plan reply moment) ≡ [] }
     ensures mode { (past : List Entry) (t s k : ℕ) (plan : Option Plan) (reply : Json) (moment : ℕ) →
         is_return reply ≡ false → mode_of t (Done s k plan reply moment ∷ past) ≡ mode_of t past }
     ensures stop { (past : List Entry) (s k : ℕ) (plan : Option Plan) (reply : Json) (moment : ℕ) →
@@ -72,7 +76,7 @@ pub fn answered_once()
     ensures at_most { (world : World) (journal : List Entry) (s k : ℕ) →
         IsLegal world journal → count_by (replies_to s k) journal ≤ 1 }
     ensures drained { (world : World) (before after : List Entry) (s k : ℕ) →
-        IsLegal world (before ++ after) → is_drained s (past_of before) ≡ true →
+        IsLegal world (before ++ after) → is_drained world s (past_of before) ≡ true →
         list_any (admits_request s k) (before ++ after) ≡ true →
         count_by (replies_to s k) (before ++ after) ≡ 1 }
     ensures admitted { (world : World) (before : List Entry) (e : Entry) (after : List Entry) (s k : ℕ) →
@@ -117,18 +121,24 @@ pub fn in_band_in_order()
 {}
 
 /// A request out of band whose command may not be run so is answered with an error, and changes no
-/// cell, no tally and no session's mode, and does not stop the monitor.
+/// cell, no tally, no job and no session's mode, raises no event, and does not stop the monitor.
 pub fn refused_out_of_band_changes_nothing()
     ensures error { (world : World) (before between after : List Entry)
         (s k : ℕ) (lane : Lane) (input : Input) (plan : Option Plan) (reply : Json) (moment : ℕ) →
         IsLegal world (before ++ Admit s k lane input ∷ (between ++ OobDone s k plan reply moment ∷ after)) →
         names_out_of_band world input ≡ false → is_return reply ≡ false }
-    ensures store { (world : World) (before between after : List Entry)
+    ensures state { (world : World) (before between after : List Entry)
         (s k : ℕ) (lane : Lane) (input : Input) (plan : Option Plan) (reply : Json) (moment : ℕ) →
         IsLegal world (before ++ Admit s k lane input ∷ (between ++ OobDone s k plan reply moment ∷ after)) →
         names_out_of_band world input ≡ false →
         (let past = past_of (before ++ Admit s k lane input ∷ between) in
-        store_of world (OobDone s k plan reply moment ∷ past) ≡ store_of world past) }
+        state_of world (OobDone s k plan reply moment ∷ past) ≡ state_of world past) }
+    ensures raises { (world : World) (before between after : List Entry)
+        (s k : ℕ) (lane : Lane) (input : Input) (plan : Option Plan) (reply : Json) (moment : ℕ) →
+        IsLegal world (before ++ Admit s k lane input ∷ (between ++ OobDone s k plan reply moment ∷ after)) →
+        names_out_of_band world input ≡ false →
+        (let past = past_of (before ++ Admit s k lane input ∷ between) in
+        raises_at world past (OobDone s k plan reply moment) ≡ []) }
     ensures mode { (past : List Entry) (t s k : ℕ) (plan : Option Plan) (reply : Json) (moment : ℕ) →
         mode_of t (OobDone s k plan reply moment ∷ past) ≡ mode_of t past }
     ensures stop { (past : List Entry) (s k : ℕ) (plan : Option Plan) (reply : Json) (moment : ℕ) →

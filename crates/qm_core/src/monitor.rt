@@ -3,7 +3,6 @@ ghost use Rattle.std.specs.Result.{result_err};
 ghost use Rattle.qm_core.specs.Legal.{HasRoom, IsLegal, past_of};
 ghost use Rattle.qm_core.specs.Next.{closed_refusal};
 ghost use Rattle.qm_core.specs.Planned.{planned_of};
-ghost use Rattle.qm_core.specs.State.{store_of};
 ghost use Rattle.qm_core.specs.Worlds.{IsReady};
 ghost use Rattle.qm_core.specs.Sessions.{OfOpen, fresh, kept_at, open_in, rest_of, session_at};
 ghost use Rattle.qm_core.specs.Standing.{sessions_of, was_opened, admitted_of, is_dropped, is_stopped, in_flight_of, running_of, open_out_of_band_of, named_of};
@@ -11,13 +10,13 @@ ghost use Rattle.qm_core.specs.Transcript.{has_overrun};
 
 use crate::entries::StepFault;
 use crate::journal::{EntryList, Journal};
+use crate::machine::Machine;
 use crate::plans::{call_plan, command};
 use crate::requests::{Request, RequestName};
 use crate::sessions::{ClosedSession, Place, Session};
 use crate::world::{Setting, World};
 use qm_base::NoMemory;
-use qm_bind::Binding;
-use qm_plan::{Plan, Store};
+use qm_plan::Plan;
 use qm_queue::TurnQueue;
 use std::alloc::Global;
 use std::marker::Model;
@@ -26,6 +25,7 @@ mod reply_steps;
 mod request_steps;
 mod rooms;
 mod session_steps;
+mod tick_steps;
 
 /// What a monitor may grow to.
 #[derive(Clone, Copy, Debug, PartialEq, Eq)]
@@ -34,14 +34,6 @@ pub struct Limits {
     pub entries: u64,
     /// The bytes of the entry lines, and 64 for each open session.
     pub text: u64,
-}
-
-fn first_store(alloc: Global, world: &World) -> Result<Store, NoMemory>
-    requires { IsReady world.now }
-    ensures { IfOk result (λ store. store ≡ store_of world.now []) }
-{
-    let Binding { cells, tallies, .. } = &world.binding;
-    Store::new(alloc, cells.as_slice(), tallies.as_slice())
 }
 
 /// The monitor: its journal, and what stands in it. Contracts see its world, its limits and its
@@ -63,7 +55,7 @@ pub struct Monitor {
     last_moment: u64,
     /// Whether a command has stopped the monitor.
     stopped: bool,
-    store: Store,
+    machine: Machine,
 }
 
 fn name_of(request: &Option<Request>) -> Option<RequestName>
@@ -108,7 +100,7 @@ impl Monitor {
             ≡ record { world = world; limits = limits; journal = [] }) }
     {
         let journal = Journal::new(alloc, limits.entries as usize)?;
-        let store = first_store(alloc, &world)?;
+        let machine = Machine::new(alloc, &world)?;
         Ok(Monitor {
             world: Setting::new(alloc, world)?,
             limits,
@@ -120,7 +112,7 @@ impl Monitor {
             command: None,
             last_moment: 0,
             stopped: false,
-            store,
+            machine,
         })
     }
 
@@ -175,7 +167,7 @@ impl Monitor {
         ensures known { result ≡ was_opened session (past_of self.now.journal) }
         ensures counted { result ≡ true → (0 < session) × (session ≤ length (sessions_of (past_of self.now.journal))) }
         ensures untouched { result ≡ false
-            → kept_at (past_of self.now.journal) session ≡ OfOpen fresh }
+            → kept_at self.now.world (past_of self.now.journal) session ≡ OfOpen fresh }
     {
         session > 0 && session as usize <= self.sessions.len()
     }
@@ -183,7 +175,7 @@ impl Monitor {
     /// What is kept of a session that was opened.
     fn place(&self, session: u32) -> &Place
         requires { was_opened session (past_of self.now.journal) ≡ true }
-        ensures kept { kept_of result.now ≡ kept_at (past_of self.now.journal) session }
+        ensures kept { kept_of result.now ≡ kept_at self.now.world (past_of self.now.journal) session }
         ensures closed { is_some (open_in (kept_of result.now)) ≡ false
             → open_out_of_band_of session (past_of self.now.journal) ≡ None }
     {
@@ -195,7 +187,7 @@ impl Monitor {
         requires { was_opened session (past_of self.now.journal) ≡ true }
         ensures some { is_some result ≡ not (is_dropped session (past_of self.now.journal)) }
         ensures session { IfSome result (λ state.
-            state.now ≡ session_at (past_of self.now.journal) session) }
+            state.now ≡ session_at self.now.world (past_of self.now.journal) session) }
         ensures closed { is_some result ≡ false
             → open_out_of_band_of session (past_of self.now.journal) ≡ None }
     {
@@ -205,7 +197,7 @@ impl Monitor {
     /// What stays of a session that was opened once it is closed.
     fn rest(&self, session: u32) -> ClosedSession
         requires { was_opened session (past_of self.now.journal) ≡ true }
-        ensures { result ≡ rest_of (session_at (past_of self.now.journal) session) }
+        ensures { result ≡ rest_of (session_at self.now.world (past_of self.now.journal) session) }
     {
         self.place(session).rest()
     }
@@ -219,7 +211,7 @@ impl Monitor {
 
     /// Whether a line of the session did not fit into its outbox, so that it gets no line any more.
     pub fn is_overrun(&self, session: u32) -> bool
-        ensures { result ≡ has_overrun session (past_of self.now.journal) }
+        ensures { result ≡ has_overrun self.now.world session (past_of self.now.journal) }
     {
         self.is_known(session) && self.rest(session).overrun
     }
@@ -273,7 +265,7 @@ impl Monitor {
     }
 
     fn in_flight(&self, session: u32, state: &Session) -> u32
-        requires { state.now ≡ session_at (past_of self.now.journal) session }
+        requires { state.now ≡ session_at self.now.world (past_of self.now.journal) session }
         ensures { result ≡ in_flight_of session (past_of self.now.journal) }
     {
         let runs = matches!(&self.running, Some(request) if request.session == session);
@@ -282,7 +274,7 @@ impl Monitor {
 
     fn open_session(&self, session: u32) -> Result<&Session, StepFault>
         ensures state { IfOk result (λ state.
-            state.now ≡ session_at (past_of self.now.journal) session) }
+            state.now ≡ session_at self.now.world (past_of self.now.journal) session) }
         ensures open { OnOk result (IsOpen (past_of self.now.journal) session) }
         ensures fault { result_err result ≡ closed_refusal session (past_of self.now.journal) }
     {

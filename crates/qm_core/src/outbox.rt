@@ -95,6 +95,25 @@ impl Outbox {
         Ok(())
     }
 
+    /// Takes back all lines but so many of the first. It takes no memory.
+    pub(crate) fn cut(&mut self, count: usize)
+        ensures { self.new ≡ take count self.old }
+    {
+        while self.kept.len() > count {
+            self.drop_last();
+        }
+    }
+
+    /// Takes back the last line, where there is one. It takes no memory.
+    fn drop_last(&mut self)
+        ensures { self.new ≡ take (length self.old - 1) self.old }
+    {
+        if let Some(line) = self.kept.pop() {
+            let _ = self.given.pop();
+            self.bytes -= line.get().len() as u64 + 2;
+        }
+    }
+
     /// Moves all lines out. It takes no memory.
     pub(crate) fn take(&mut self) -> Copies
         ensures kept { result.kept ≡ self.old }

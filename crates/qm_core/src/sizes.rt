@@ -6,7 +6,7 @@ ghost use Rattle.std.specs.Fmt.{decimal};
 ghost use Rattle.qm_json.specs.Printing.{capped};
 ghost use Rattle.qm_core.specs.Texts.{bad_word_of, entry_text_of, entry_body_of, input_text_of, json_word_of, request_text_of, taken_text_of};
 ghost use Rattle.qm_core.specs.declared.TheConstants.{DROP_BYTES};
-ghost use Rattle.qm_core.specs.declared.entries.Entry.TheVariants.{Open, Admit, Start, Done, OobDone, Take, Eof, Drop};
+ghost use Rattle.qm_core.specs.declared.entries.Entry.TheVariants.{Open, Admit, Start, Done, OobDone, Tick, Take, Eof, Drop};
 
 use crate::entries::Cause;
 use crate::inputs::{BadInput, Input, JsonWord};
@@ -100,6 +100,12 @@ pub(crate) fn take_size(at: u64, session: u32, outbox: &Outbox) -> u64
     let count = outbox.len() as u64;
     let before = number_size(at) + 8 + number_size(u64::from(session)) + number_size(count);
     (before + outbox.bytes()).saturating_add(count)
+}
+
+pub(crate) fn tick_size(at: u64, moment: u64) -> u64
+    ensures { result ≡ capped (length (entry_text_of at (Tick moment))) }
+{
+    number_size(at) + 8 + number_size(moment)
 }
 
 pub(crate) fn eof_size(at: u64, session: u32) -> u64

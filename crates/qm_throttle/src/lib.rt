@@ -14,6 +14,6 @@ pub mod window;
 pub(crate) mod windows;
 
 pub use sent::{Sent, SentList};
-pub use throttle::Throttle;
+pub use throttle::{Throttle, copy_periods};
 pub use told::Told;
 pub use window::Window;

@@ -170,7 +170,8 @@ fn copy_names(alloc: Global, names: &Names) -> Result<Names, NoMemory>
     Ok(copied)
 }
 
-fn copy_periods(alloc: Global, periods: &PeriodList) -> Result<PeriodList, NoMemory>
+/// Equal periods.
+pub fn copy_periods(alloc: Global, periods: &PeriodList) -> Result<PeriodList, NoMemory>
     ensures { IfOk result (λ copied. copied ≡ periods.now) }
 {
     let mut copied = PeriodList::new(alloc);

@@ -28,6 +28,15 @@ fn add(sent: &mut SentList, event: Option<Sent>) -> Result<(), NoMemory>
     }
 }
 
+fn add_all(sent: &mut SentList, events: SentList) -> Result<(), NoMemory>
+    ensures { OnOk result (sent.new ≡ sent.old ++ events) }
+{
+    for event in events.into_vec() {
+        sent.push(event)?;
+    }
+    Ok(())
+}
+
 /// Raises events one after the other.
 fn raise_each(
     alloc: Global,
@@ -65,12 +74,22 @@ impl Throttle {
         Ok(Told { throttle, sent })
     }
 
-    /// The throttle after a tick at a moment, in microseconds, and the events that it sends.
-    pub fn with_tick(&self, alloc: Global, moment: u64) -> Result<Told, NoMemory>
-        ensures { IfOk result (λ told. StepsOver self.now (Tick moment ∷ []) told.sent told.throttle) }
+    /// The throttle after a tick at a moment, in microseconds, and after events that are raised there
+    /// one after the other, and what is sent of all.
+    pub fn with_tick(
+        &self,
+        alloc: Global,
+        raised: RaisedList,
+        moment: u64,
+    ) -> Result<Told, NoMemory>
+        requires { All (λ r. r.event < length self.now.periods) raised }
+        ensures { IfOk result (λ told. StepsOver self.now
+            (Tick moment ∷ raises self.now.periods moment raised) told.sent told.throttle) }
     {
         let mut throttle = self.copy(alloc)?;
-        let sent = throttle.tick(alloc, moment)?;
+        let mut sent = throttle.tick(alloc, moment)?;
+        let events = raise_each(alloc, &mut throttle, raised.into_vec(), moment)?;
+        add_all(&mut sent, events)?;
         Ok(Told { throttle, sent })
     }
 }

@@ -1,28 +1,31 @@
-ghost use Rattle.std.specs.Prelude.{◌≡◌, ◌≢◌, ◌<◌, length, codes, if◌then◌else◌, Some, None, Err, IfSome, IfOk, OnOk, OnErr, is_some, ◌&&◌};
+ghost use Rattle.std.specs.Prelude.{◌≡◌, ◌≢◌, ◌<◌, length, map, codes, if◌then◌else◌, Some, None, Err, IfSome, IfOk, OnOk, OnErr, is_some, ◌&&◌};
 ghost use Rattle.std.specs.Result.{result_err};
 ghost use Rattle.qm_json.specs.Printing.{printed};
-ghost use Rattle.qm_caps.specs.Modes.{is_negotiating};
 ghost use Rattle.qm_core.specs.Kept.{kept_of};
-ghost use Rattle.qm_core.specs.Sessions.{told_of, told_out_of_band, while_open};
+ghost use Rattle.qm_core.specs.Machines.{Brings, state_in_machine};
+ghost use Rattle.qm_core.specs.Sessions.{told_in, told_of, told_out_of_band, while_open};
+ghost use Rattle.qm_core.specs.Telling.{AreTold};
 ghost use Rattle.qm_core.specs.Legal.{past_of};
 ghost use Rattle.qm_core.specs.Next.{Next, Finish, FinishOob, is_open_out_of_band, is_running, names, session_refusal};
-ghost use Rattle.qm_plan.specs.Stores.{committed};
-ghost use Rattle.qm_core.specs.Planned.{command_for, planned_for, planned_of, mode_by};
+ghost use Rattle.qm_core.specs.Planned.{command_for, planned_for, planned_of};
 ghost use Rattle.qm_core.specs.Replies.{reply_to};
-ghost use Rattle.qm_core.specs.State.{stored};
+ghost use Rattle.qm_core.specs.State.{effect_by, left_by, raises_by};
 ghost use Rattle.qm_core.specs.Standing.{answers, named_of, running_of, open_out_of_band_of};
 
 use crate::entries::{Entry, StepFault};
-use crate::lines::line;
+use crate::lines::{LineList, line};
+use crate::machine::{Change, Machine, Sending, raise_all};
 use crate::monitor::Monitor;
 use crate::plans::command;
 use crate::replies::{self, Reply};
 use crate::requests::Request;
 use crate::sessions::{Place, Session};
+use crate::telling::{take_back, tell_all};
 use crate::world::Setting;
 use qm_base::{NoMemory, Shared, Text};
+use qm_caps::Lane;
 use qm_json::Json;
-use qm_plan::{Plan, Store, StoreChangeList};
+use qm_plan::Plan;
 use std::alloc::Global;
 
 /// A reply to a request, and what it brings about.
@@ -30,7 +33,9 @@ use std::alloc::Global;
 struct Answer {
     reply: Json,
     line: Shared<Text>,
-    changes: StoreChangeList,
+    /// The lines of the events that are sent before it.
+    events: LineList,
+    change: Change,
     /// Whether it opens a command mode, where none is open.
     negotiates: bool,
     /// Whether it stops the monitor.
@@ -40,30 +45,57 @@ struct Answer {
 fn answer_to(
     alloc: Global,
     world: &Setting,
-    store: &Store,
+    machine: &Machine,
     request: &Request,
     command: Option<u32>,
     plan: &Option<Plan>,
+    moment: u64,
 ) -> Result<Answer, NoMemory>
     requires command { command ≡ command_for world.now request.now }
     requires known { IfSome command (λ c. c < length world.now.schema.commands) }
     requires planned { plan.now ≡ planned_for world.now request.now }
-    ensures reply { IfOk result (λ answer. answer.reply ≡ reply_to world.now store.now request.now) }
-    ensures line { IfOk result (λ answer. answer.line ≡ printed (reply_to world.now store.now request.now)) }
-    ensures mode { IfOk result (λ answer. answer.negotiates
-        ≡ answers (codes "qmp_capabilities") (Some request.now) (reply_to world.now store.now request.now)) }
-    ensures stop { IfOk result (λ answer. answer.stops
-        ≡ answers (codes "quit") (Some request.now) (reply_to world.now store.now request.now)) }
-    ensures store { IfOk result (λ answer. committed answer.changes store.now
-        ≡ stored world.now store.now plan.now (reply_to world.now store.now request.now)) }
+    requires periods { machine.now.throttle.periods ≡ world.now.binding.periods }
+    requires each { length world.now.binding.periods ≡ length world.now.schema.events }
+    ensures reply { let state = state_in_machine machine.now in
+        IfOk result (λ answer. answer.reply ≡ reply_to world.now state request.now) }
+    ensures line { let state = state_in_machine machine.now in
+        IfOk result (λ answer. answer.line ≡ printed (reply_to world.now state request.now)) }
+    ensures mode { let state = state_in_machine machine.now in IfOk result (λ answer. answer.negotiates
+        ≡ answers (codes "qmp_capabilities") (Some request.now) (reply_to world.now state request.now)) }
+    ensures stop { let state = state_in_machine machine.now in IfOk result (λ answer. answer.stops
+        ≡ answers (codes "quit") (Some request.now) (reply_to world.now state request.now)) }
+    ensures change { let state = state_in_machine machine.now in
+        let effect = effect_by world.now state plan.now (reply_to world.now state request.now) in
+        IfOk result (λ answer. Brings world.now machine.now (left_by state effect)
+        (raises_by world.now moment effect) answer.events answer.change) }
 {
-    let Reply { value, changes } = replies::replied(alloc, world, store, request, command, plan)?;
+    let Reply {
+        value,
+        changes,
+        jobs,
+        raised,
+    } = replies::replied(
+        alloc,
+        world,
+        &machine.store,
+        &machine.jobs,
+        request,
+        command,
+        plan,
+    )?;
     let line = line(alloc, &value)?;
+    let Sending { lines, throttle } =
+        raise_all(alloc, world.world(), &machine.throttle, raised, moment)?;
     let returns = replies::is_return(&value);
     Ok(Answer {
         reply: value,
         line,
-        changes,
+        events: lines,
+        change: Change {
+            store: changes,
+            jobs,
+            throttle,
+        },
         negotiates: replies::calls(request, b"qmp_capabilities") && returns,
         stops: replies::calls(request, b"quit") && returns,
     })
@@ -87,23 +119,6 @@ fn answered(
     Ok(())
 }
 
-/// The same of a session while it is open.
-fn tell(
-    place: &mut Place,
-    line: Shared<Text>,
-    negotiates: bool,
-    plan: &Option<Plan>,
-) -> Result<(), NoMemory>
-    ensures ok { OnOk result (kept_of place.new
-        ≡ while_open (told_of plan.now negotiates line) (kept_of place.old)) }
-    ensures err { OnErr result (place.new ≡ place.old) }
-{
-    match place {
-        Place::Open(state) => answered(state, line, negotiates, plan),
-        Place::Closed(_) => Ok(()),
-    }
-}
-
 /// Tells a session the reply to its request that is open out of band. An error leaves the session
 /// as it was.
 fn answered_out_of_band(state: &mut Session, line: Shared<Text>) -> Result<(), NoMemory>
@@ -115,16 +130,48 @@ fn answered_out_of_band(state: &mut Session, line: Shared<Text>) -> Result<(), N
     Ok(())
 }
 
-/// The same of a session while it is open.
-fn tell_out_of_band(place: &mut Place, line: Shared<Text>) -> Result<(), NoMemory>
+/// Tells a session the reply to its request of a lane, while it is open. An error leaves the session
+/// as it was.
+fn tell(
+    place: &mut Place,
+    line: Shared<Text>,
+    lane: Lane,
+    negotiates: bool,
+    plan: &Option<Plan>,
+) -> Result<(), NoMemory>
     ensures ok { OnOk result (kept_of place.new
-        ≡ while_open (told_out_of_band line) (kept_of place.old)) }
-    ensures err { OnErr result (place.new ≡ place.old) }
+        ≡ while_open (told_in lane plan.now negotiates line) (kept_of place.old)) }
+    ensures err { OnErr result (kept_of place.new ≡ kept_of place.old) }
 {
-    match place {
-        Place::Open(state) => answered_out_of_band(state, line),
-        Place::Closed(_) => Ok(()),
+    match (place, lane) {
+        (Place::Open(state), Lane::InBand) => answered(state, line, negotiates, plan),
+        (Place::Open(state), Lane::Oob) => answered_out_of_band(state, line),
+        (Place::Closed(_), _) => Ok(()),
     }
+}
+
+/// Tells all sessions of events, and then the session at a place the reply to its request. An error
+/// leaves the sessions as they were.
+fn tell_answer(
+    alloc: Global,
+    places: &mut Vec<Place>,
+    at: usize,
+    answer: &Answer,
+    lane: Lane,
+    plan: &Option<Plan>,
+) -> Result<(), NoMemory>
+    requires { at < length places.old.items }
+    ensures ok { OnOk result (AreTold (map kept_of places.old.items) answer.now.events at
+        (told_in lane plan.now answer.now.negotiates answer.now.line) (map kept_of places.new.items)) }
+    ensures err { OnErr result (map kept_of places.new.items ≡ map kept_of places.old.items) }
+{
+    let line = answer.line.again()?;
+    let marks = tell_all(alloc, places, &answer.events)?;
+    if tell(&mut places[at], line, lane, answer.negotiates, plan).is_err() {
+        take_back(places, marks.as_slice());
+        return Err(NoMemory);
+    }
+    Ok(())
 }
 
 /// The request, if it has this session and this number.
@@ -157,8 +204,9 @@ impl Monitor {
     }
 
     /// Answers the running request at a moment by its plan, and puts the reply into the outbox of
-    /// its session while that is open; where the reply is no error, the store is what the plan
-    /// leaves. The entry's moment is not before any other of the journal.
+    /// its session while that is open; where the reply is no error, the store and the jobs are what
+    /// the plan leaves, and the events that are sent go to each session that is open and in a command
+    /// mode, before the reply. The entry's moment is not before any other of the journal.
     ///
     /// `NotRunning`: this request is not the running one. `JournalFull`. `Memory`. A refusal leaves
     /// the monitor as it was.
@@ -176,26 +224,28 @@ impl Monitor {
         ensures memory { result ≡ Err StepFault.Memory → self.new ≡ self.old }
     {
         let request = self.may_finish(session, number)?;
-        let Answer {
-            reply,
-            line,
-            changes,
-            negotiates,
-            stops,
-        } = answer_to(
+        let moment = moment.max(self.last_moment);
+        let answer = answer_to(
             alloc,
             &self.world,
-            &self.store,
+            &self.machine,
             request,
             self.command,
             &plan,
+            moment,
         )?;
-        let moment = moment.max(self.last_moment);
-        let bytes = self.finish_room(session, number, &plan, &reply, moment)?;
-        let place = &mut self.sessions[session as usize - 1];
-        tell(place, line, negotiates, &plan)?;
-        self.stopped = stops | self.stopped;
-        self.store.commit(changes);
+        let bytes = self.finish_room(session, number, &plan, &answer.reply, moment)?;
+        let at = session as usize - 1;
+        tell_answer(
+            alloc,
+            &mut self.sessions,
+            at,
+            &answer,
+            Lane::InBand,
+            &plan,
+        )?;
+        self.stopped = answer.stops | self.stopped;
+        self.machine.commit(answer.change);
         self.running = None;
         self.command = None;
         self.last_moment = moment;
@@ -204,7 +254,7 @@ impl Monitor {
                 session,
                 number,
                 plan,
-                reply,
+                reply: answer.reply,
                 moment,
             },
             bytes,
@@ -250,24 +300,27 @@ impl Monitor {
     {
         let request = self.may_finish_out_of_band(session, number)?;
         let command = command(self.world.world(), request);
-        let Answer {
-            reply,
-            line,
-            changes,
-            ..
-        } = answer_to(alloc, &self.world, &self.store, request, command, &plan)?;
         let moment = moment.max(self.last_moment);
-        let bytes = self.oob_room(session, number, &plan, &reply, moment)?;
-        let place = &mut self.sessions[session as usize - 1];
-        tell_out_of_band(place, line)?;
-        self.store.commit(changes);
+        let answer = answer_to(
+            alloc,
+            &self.world,
+            &self.machine,
+            request,
+            command,
+            &plan,
+            moment,
+        )?;
+        let bytes = self.oob_room(session, number, &plan, &answer.reply, moment)?;
+        let at = session as usize - 1;
+        tell_answer(alloc, &mut self.sessions, at, &answer, Lane::Oob, &plan)?;
+        self.machine.commit(answer.change);
         self.last_moment = moment;
         self.journal.put(
             Entry::OobDone {
                 session,
                 number,
                 plan,
-                reply,
+                reply: answer.reply,
                 moment,
             },
             bytes,

@@ -7,7 +7,7 @@ ghost use Rattle.qm_core.specs.Legal.{past_of};
 ghost use Rattle.qm_core.specs.Next.{full_unless};
 ghost use Rattle.qm_core.specs.Standing.{open_count_of, sessions_of};
 ghost use Rattle.qm_core.specs.declared.TheConstants.{MOST_SESSIONS, MOST_TEXT};
-ghost use Rattle.qm_core.specs.declared.entries.Entry.TheVariants.{Open, Admit, Start, Done, OobDone, Take, Eof};
+ghost use Rattle.qm_core.specs.declared.entries.Entry.TheVariants.{Open, Admit, Start, Done, OobDone, Tick, Take, Eof};
 
 use crate::DROP_BYTES;
 use crate::entries::StepFault;
@@ -16,6 +16,7 @@ use crate::monitor::Monitor;
 use crate::outbox::Outbox;
 use crate::sizes::{
     admit_size, done_size, eof_size, oob_done_size, open_size, start_size, take_size,
+    tick_size,
 };
 use qm_caps::Lane;
 use qm_json::Json;
@@ -119,6 +120,13 @@ impl Monitor {
             oob_done_size(at, session, number, reply, moment),
             self.open_count(),
         )
+    }
+
+    pub(super) fn tick_room(&self, moment: u64) -> Result<u64, StepFault>
+        ensures { Placed self.now (Tick moment) result }
+    {
+        let at = self.next_number();
+        self.room(tick_size(at, moment), self.open_count())
     }
 
     pub(super) fn take_room(&self, session: u32, outbox: &Outbox) -> Result<u64, StepFault>

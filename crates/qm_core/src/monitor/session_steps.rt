@@ -156,8 +156,8 @@ impl Monitor {
     fn may_take(&self, session: u32) -> Result<u64, StepFault>
         ensures fault { result_err result ≡ refusal_in self.now (Take session) }
         ensures open { OnOk result (IsOpen (past_of self.now.journal) session) }
-        ensures some { OnOk result (0 < length (untaken_of session (past_of self.now.journal))) }
-        ensures placed { let lines = untaken_of session (past_of self.now.journal) in
+        ensures some { OnOk result (0 < length (untaken_of self.now.world session (past_of self.now.journal))) }
+        ensures placed { let lines = untaken_of self.now.world session (past_of self.now.journal) in
             IfOk result (IsPlaced self.now (entry.Take session lines)) }
     {
         let state = self.open_session(session)?;
@@ -173,7 +173,7 @@ impl Monitor {
     /// `JournalFull`. A refusal leaves the monitor as it was.
     pub fn take(&mut self, session: u32) -> Result<LineList, StepFault>
         ensures next { Next self.old (Take session) (result_err result) self.new }
-        ensures value { IfOk result (λ lines. lines ≡ untaken_of session (past_of self.old.journal)) }
+        ensures value { IfOk result (λ lines. lines ≡ untaken_of self.old.world session (past_of self.old.journal)) }
     {
         let bytes = self.may_take(session)?;
         let place = &mut self.sessions[session as usize - 1];
@@ -190,8 +190,8 @@ impl Monitor {
 
     fn is_drained(&self, session: u32, state: &Session) -> bool
         requires open { IsOpen (past_of self.now.journal) session }
-        requires state { state.now ≡ session_at (past_of self.now.journal) session }
-        ensures { result ≡ is_drained session (past_of self.now.journal) }
+        requires state { state.now ≡ session_at self.now.world (past_of self.now.journal) session }
+        ensures { result ≡ is_drained self.now.world session (past_of self.now.journal) }
     {
         state.ended
             && self.in_flight(session, state) == 0
@@ -202,8 +202,8 @@ impl Monitor {
 
     fn cause_holds(&self, session: u32, state: &Session, cause: Cause) -> bool
         requires open { IsOpen (past_of self.now.journal) session }
-        requires state { state.now ≡ session_at (past_of self.now.journal) session }
-        ensures { result ≡ cause_holds (past_of self.now.journal) session cause }
+        requires state { state.now ≡ session_at self.now.world (past_of self.now.journal) session }
+        ensures { result ≡ cause_holds self.now.world (past_of self.now.journal) session cause }
     {
         match cause {
             Cause::Ended => self.is_drained(session, state),
@@ -217,7 +217,7 @@ impl Monitor {
     fn may_drop(&self, session: u32, cause: Cause) -> Result<(), StepFault>
         ensures fault { result_err result ≡ refusal_in self.now (Drop session cause) }
         ensures open { OnOk result (IsOpen (past_of self.now.journal) session) }
-        ensures holds { OnOk result (cause_holds (past_of self.now.journal) session cause ≡ true) }
+        ensures holds { OnOk result (cause_holds self.now.world (past_of self.now.journal) session cause ≡ true) }
     {
         let state = self.open_session(session)?;
         if self.cause_holds(session, state, cause) {
