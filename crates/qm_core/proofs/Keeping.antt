@@ -1,5 +1,5 @@
 -- What the fields of a monitor keep, after one more entry.
-use Rattle.std.proofs.Common.{◌≡◌, ◌≢◌, ℕ, ◌+◌, ◌-◌, ◌<◌, ◌≤◌, Bool, true, false, cond, Option, Some, None, is_some, max, ◌^◌, List, [], ◌∷◌, ◌++◌, length, map, get_or, refl, ap, sym, ◌∙◌, arith}
+use Rattle.std.proofs.Common.{◌≡◌, ◌≢◌, ℕ, zero, suc, ◌+◌, ◌-◌, ◌<◌, ◌≤◌, Bool, true, false, cond, Option, Some, None, is_some, max, ◌^◌, List, [], ◌∷◌, ◌++◌, length, map, get_or, refl, ap, sym, ◌∙◌, arith}
 use Rattle.std.specs.Option.{option_or}
 use Rattle.std.proofs.lemmas.List.{length-append, length-map, map-set, map_push, get_or-map}
 use Rattle.std.proofs.Math.ListN.{set}
@@ -10,28 +10,30 @@ use Rattle.qm_caps.specs.declared.mode.Lane.{Lane, TheVariants.InBand, TheVarian
 use Rattle.qm_queue.specs.{Turns.IsOpened}
 use Rattle.qm_queue.specs.declared.{ring.TheConstants.PLACES, turns.TurnItem.TurnItem}
 use Rattle.qm_core.specs.declared.{TheConstants.DROP_BYTES, entries.Cause.Cause, entries.StepFault.StepFault, entries.Entry.Entry, entries.Entry.TheVariants.Admit, entries.Entry.TheVariants.Open, entries.Entry.TheVariants.Drop, inputs.Input.Input, monitor.Monitor.TheInside.Inside as Fields, sessions.Place.Place}
-use Rattle.qm_core.specs.{Answers.IsAnswer, Legal.AllFollow, Legal.past_of, Order.MayCome, Order.MayFollow, State.store_of}
+use Rattle.qm_core.specs.{Answers.IsAnswer, Legal.AllFollow, Legal.past_of, Order.MayCome, Order.MayFollow, State.events_at, Events.event_lines_of, Machines.Holds}
 use Rattle.qm_core.specs.Kept.{AreSessions, IsOpen, IsPlaced, IsRunning, IsSound, kept_of, refusal_in, view_of}
 use Rattle.qm_core.specs.Next.{Next, Step, View, entry_of}
-use Rattle.qm_core.specs.Sessions.{Kept, OfOpen, kept_at, session_at, turn_at}
+use Rattle.qm_core.specs.Sessions.{Kept, OfOpen, kept_at, session_at, told_events, turn_at, while_open}
+use Rattle.qm_core.specs.Telling.{AreTold, all_told, changed_at}
+use Rattle.qm_core.specs.declared.{sessions.Session.Session, world.World.World}
 use Rattle.qm_core.specs.Texts.{entry_text_of}
 use Rattle.qm_core.specs.Standing.{sessions_of, was_opened, is_open, is_stopped, in_flight_of, mode_of, turn_item, waiting_of, open_count_of, last_moment_of}
-use Rattle.qm_core.proofs.{Counts.counts-drop, Journals.legal-append, Journals.past_of-append, Lists.list-at, Lists.list-changed, Lists.list-more, Pasts.open_opened, Pasts.opened-within, Records.Stays, Records.kept-open, Records.open-other, Texts.text_more, Turns.admit-turn, Turns.admit-turn-other, Turns.oob-turn}
+use Rattle.qm_core.proofs.{Coming.AllCome, Coming.all-come, Counts.counts-drop, Journals.legal-append, Journals.past_of-append, Lists.list-at, Lists.list-changed, Lists.list-more, Pasts.open_opened, Pasts.opened-within, Records.Hears, Records.Stays, Records.kept-open, Records.open-other, Texts.text_more, Turns.admit-turn, Turns.admit-turn-other, Turns.oob-turn}
 
 -- the fields after an entry are what stands after it
 pub record Follows (m new : Fields) (e : Entry) : Type 0 where
   pub world : new.world ≡ m.world
   pub limits : new.limits ≡ m.limits
   pub journal : new.journal ≡ record m.journal { items = m.journal.items ++ e ∷ [] }
-  pub sessions : AreSessions (e ∷ past_of m.journal.items) new.sessions.items
+  pub sessions : AreSessions m.world (e ∷ past_of m.journal.items) new.sessions.items
   pub turns : new.turns ≡ map (turn_at (e ∷ past_of m.journal.items)) (sessions_of (e ∷ past_of m.journal.items))
   pub open_count : new.open_count ≡ open_count_of (e ∷ past_of m.journal.items)
   pub running : IsRunning m.world (e ∷ past_of m.journal.items) new.running new.command
   pub moment : new.last_moment ≡ last_moment_of (e ∷ past_of m.journal.items)
   pub stopped : new.stopped ≡ is_stopped (e ∷ past_of m.journal.items)
-  pub store : new.store ≡ store_of m.world (e ∷ past_of m.journal.items)
+  pub machine : Holds m.world (e ∷ past_of m.journal.items) new.machine
 
-pub after_entry : (m new : Fields) (e : Entry) (bytes : ℕ) → IsSound m → MayFollow (past_of m.journal.items) e → IsAnswer m.world (past_of m.journal.items) e →
+pub after_entry : (m new : Fields) (e : Entry) (bytes : ℕ) → IsSound m → MayFollow m.world (past_of m.journal.items) e → IsAnswer m.world (past_of m.journal.items) e →
     IsPlaced (view_of m) e bytes → Follows m new e → IsSound new
 after_entry m new e bytes sound may answer placed follows =
     let next = past_of-append m.journal.items e in
@@ -43,76 +45,115 @@ after_entry m new e bytes sound may answer placed follows =
       places = rw (follows.journal, follows.limits) sound.places;
       few = rw follows.limits sound.few;
       short = rw follows.limits sound.short;
-      sessions = rw (follows.journal, next) follows.sessions;
+      sessions = rw (follows.journal, follows.world, next) follows.sessions;
       turns = rw (follows.journal, next) follows.turns;
       open_count = rw (follows.journal, next) follows.open_count;
       running = rw (follows.journal, follows.world, next) follows.running;
       moment = rw (follows.journal, next) follows.moment;
       stopped = rw (follows.journal, next) follows.stopped;
-      store = rw (follows.journal, follows.world, next) follows.store;
+      machine = rw (follows.journal, follows.world, next) follows.machine;
+      each = rw follows.world sound.each;
     }
 
 -- each session that was opened has its place
-pub sessions-count : (past : List Entry) (places : List Place) → AreSessions past places → length places ≡ length (sessions_of past)
-sessions-count past places kept = sym (length-map places kept_of) ∙ ap (λ (l : List Kept). length l) kept ∙ length-map (sessions_of past) (kept_at past)
+pub sessions-count : (world : World) (past : List Entry) (places : List Place) → AreSessions world past places → length places ≡ length (sessions_of past)
+sessions-count world past places kept = sym (length-map places kept_of) ∙ ap (λ (l : List Kept). length l) kept ∙ length-map (sessions_of past) (kept_at world past)
 
 -- what is kept of a session that was opened
-pub kept-at : (past : List Entry) (s : ℕ) (places : List Place) (d : Place) → AllFollow past → AreSessions past places → was_opened s past ≡ true →
-    kept_of (get_or places (s - 1) d) ≡ kept_at past s
-kept-at past s places d legal kept known =
-    let count = sessions-count past places kept in
+pub kept-at : (world : World) (past : List Entry) (s : ℕ) (places : List Place) (d : Place) → AllCome past → AreSessions world past places → was_opened s past ≡ true →
+    kept_of (get_or places (s - 1) d) ≡ kept_at world past s
+kept-at world past s places d legal kept known =
+    let count = sessions-count world past places kept in
     let within = opened-within s past legal known in
     sym (get_or-map kept_of places (s - 1) d (kept_of d) (omega (arith, count, within.0, within.1)))
-    ∙ ap (λ (l : List Kept). get_or l (s - 1) (kept_of d)) kept ∙ list-at (kept_at past) past s (kept_of d) legal known
+    ∙ ap (λ (l : List Kept). get_or l (s - 1) (kept_of d)) kept ∙ list-at (kept_at world past) past s (kept_of d) legal known
 
 -- and of one that is open
-pub open-at : (past : List Entry) (s : ℕ) (places : List Place) (place d : Place) → AllFollow past → AreSessions past places → IsOpen past s →
-    place ≡ get_or places (s - 1) d → kept_of place ≡ OfOpen (session_at past s)
-open-at past s places place d legal kept opened is = ap kept_of is ∙ kept-at past s places d legal kept opened.known ∙ kept-open s past opened.stays
+pub open-at : (world : World) (past : List Entry) (s : ℕ) (places : List Place) (place d : Place) → AllCome past → AreSessions world past places → IsOpen past s →
+    place ≡ get_or places (s - 1) d → kept_of place ≡ OfOpen (session_at world past s)
+open-at world past s places place d legal kept opened is = ap kept_of is ∙ kept-at world past s places d legal kept opened.known ∙ kept-open world s past opened.stays
 
 -- an entry of one session changes that session's place alone
-pub sessions-changed : (past : List Entry) (e : Entry) (s : ℕ) (places : List Place) (new : Place) → AllFollow past → AreSessions past places → was_opened s past ≡ true →
-    sessions_of (e ∷ past) ≡ sessions_of past → kept_of new ≡ kept_at (e ∷ past) s → ((t : ℕ) → t ≢ s → Stays t e past) →
-    AreSessions (e ∷ past) (set places (s - 1) new)
-sessions-changed past e s places new legal kept opened known here others =
+pub sessions-changed : (world : World) (past : List Entry) (e : Entry) (s : ℕ) (places : List Place) (new : Place) → AllCome past → AreSessions world past places → was_opened s past ≡ true →
+    sessions_of (e ∷ past) ≡ sessions_of past → kept_of new ≡ kept_at world (e ∷ past) s → ((t : ℕ) → t ≢ s → Stays world t e past) →
+    AreSessions world (e ∷ past) (set places (s - 1) new)
+sessions-changed world past e s places new legal kept opened known here others =
     map-set kept_of places (s - 1) new ∙ ap (λ (k : Kept). set (map kept_of places) (s - 1) k) here
-    ∙ ap (λ (l : List Kept). set l (s - 1) (kept_at (e ∷ past) s)) kept
-    ∙ list-changed (kept_at past) (kept_at (e ∷ past)) past s legal opened others
-    ∙ ap (λ (l : List ℕ). map (kept_at (e ∷ past)) l) (sym known)
+    ∙ ap (λ (l : List Kept). set l (s - 1) (kept_at world (e ∷ past) s)) kept
+    ∙ list-changed (kept_at world past) (kept_at world (e ∷ past)) past s legal opened others
+    ∙ ap (λ (l : List ℕ). map (kept_at world (e ∷ past)) l) (sym known)
+
+same-each : {A : Type 0} (f g : ℕ → A) → ((t : ℕ) → g t ≡ f t) → (sessions : List ℕ) → map f sessions ≡ map g sessions
+same-each f g each [] = refl
+same-each {A} f g each (s ∷ sessions) = ap (λ (i : A). i ∷ map f sessions) (sym (each s)) ∙ ap (λ (l : List A). g s ∷ l) (same-each f g each sessions)
+
+-- a session that was told of events
+abbrev heard_by : World → List Entry → Entry → ℕ → Kept
+heard_by world past e t = while_open (told_events (event_lines_of world (events_at world past e))) (kept_at world past t)
+
+told-map : (lines : List (List ℕ)) (f : ℕ → Kept) (sessions : List ℕ) → all_told lines (map f sessions) ≡ map (λ t. while_open (told_events lines) (f t)) sessions
+told-map lines f [] = refl
+told-map lines f (s ∷ sessions) = ap (λ (l : List Kept). while_open (told_events lines) (f s) ∷ l) (told-map lines f sessions)
+
+-- an entry at which sessions are only told of events
+pub sessions-heard : (world : World) (past : List Entry) (e : Entry) (lines : List (List ℕ)) (places new : List Place) → AreSessions world past places → sessions_of (e ∷ past) ≡ sessions_of past →
+    lines ≡ event_lines_of world (events_at world past e) → map kept_of new ≡ all_told lines (map kept_of places) → ((t : ℕ) → Hears world t e past) → AreSessions world (e ∷ past) new
+sessions-heard world past e lines places new kept known sends told all =
+    told ∙ ap (λ (l : List (List ℕ)). all_told l (map kept_of places)) sends
+    ∙ ap (all_told (event_lines_of world (events_at world past e))) kept ∙ told-map (event_lines_of world (events_at world past e)) (kept_at world past) (sessions_of past)
+    ∙ same-each (heard_by world past e) (kept_at world (e ∷ past)) all (sessions_of past) ∙ ap (λ (l : List ℕ). map (kept_at world (e ∷ past)) l) (sym known)
+
+changed-set : (n : ℕ) (f : Session → Session) (l : List Kept) (d : Kept) → n < length l → changed_at n f l ≡ set l n (while_open f (get_or l n d))
+changed-set n f [] d within = absurd (omega (arith, within))
+changed-set zero f (k ∷ l) d within = refl
+changed-set (suc n) f (k ∷ l) d within = ap (λ (l : List Kept). k ∷ l) (changed-set n f l d (omega (arith, within)))
+
+-- an entry at which all sessions are told of events, and then one a reply
+pub sessions-told : (world : World) (past : List Entry) (e : Entry) (s : ℕ) (lines : List (List ℕ)) (reply : Session → Session) (places new : List Place) → AllCome past → AreSessions world past places →
+    was_opened s past ≡ true → sessions_of (e ∷ past) ≡ sessions_of past → lines ≡ event_lines_of world (events_at world past e) → AreTold (map kept_of places) lines (s - 1) reply (map kept_of new) →
+    while_open reply (heard_by world past e s) ≡ kept_at world (e ∷ past) s → ((t : ℕ) → t ≢ s → Hears world t e past) → AreSessions world (e ∷ past) new
+sessions-told world past e s lines reply places new legal kept opened known sends told here others =
+    let hear = heard_by world past e in
+    let all = map hear (sessions_of past) in
+    let first : all_told lines (map kept_of places) ≡ all =
+    ap (λ (l : List (List ℕ)). all_told l (map kept_of places)) sends ∙ ap (all_told (event_lines_of world (events_at world past e))) kept
+    ∙ told-map (event_lines_of world (events_at world past e)) (kept_at world past) (sessions_of past) in
+    let placed = opened-within s past legal opened in
+    let within : s - 1 < length all = omega (arith, placed.0, placed.1, length-map (sessions_of past) hear) in
+    told ∙ ap (changed_at (s - 1) reply) first ∙ changed-set (s - 1) reply all (hear s) within
+    ∙ ap (λ (k : Kept). set all (s - 1) (while_open reply k)) (list-at hear past s (hear s) legal opened)
+    ∙ ap (λ (k : Kept). set all (s - 1) k) here
+    ∙ list-changed hear (kept_at world (e ∷ past)) past s legal opened others ∙ ap (λ (l : List ℕ). map (kept_at world (e ∷ past)) l) (sym known)
 
 -- one more session is opened
-pub sessions-more : (past : List Entry) (s : ℕ) (places : List Place) (new : Place) → AllFollow past → AreSessions past places → s ≡ length (sessions_of past) + 1 →
-    kept_of new ≡ kept_at (Open s ∷ past) s → AreSessions (Open s ∷ past) (places ++ new ∷ [])
-sessions-more past s places new legal kept next here =
+pub sessions-more : (world : World) (past : List Entry) (s : ℕ) (places : List Place) (new : Place) → AllCome past → AreSessions world past places → s ≡ length (sessions_of past) + 1 →
+    kept_of new ≡ kept_at world (Open s ∷ past) s → AreSessions world (Open s ∷ past) (places ++ new ∷ [])
+sessions-more world past s places new legal kept next here =
     map_push kept_of places new ∙ ap (λ (k : Kept). map kept_of places ++ k ∷ []) here
-    ∙ ap (λ (l : List Kept). l ++ kept_at (Open s ∷ past) s ∷ []) kept
-    ∙ list-more (kept_at past) (kept_at (Open s ∷ past)) past s legal next (λ t. open-other s t past)
+    ∙ ap (λ (l : List Kept). l ++ kept_at world (Open s ∷ past) s ∷ []) kept
+    ∙ list-more (kept_at world past) (kept_at world (Open s ∷ past)) past s legal next (λ t. open-other world s t past)
 
 -- each session that was opened has a place among the turns
-pub turns-opened : (past : List Entry) (turns : List (Option TurnItem)) (s : ℕ) → AllFollow past → turns ≡ map (turn_at past) (sessions_of past) → was_opened s past ≡ true → IsOpened s turns
+pub turns-opened : (past : List Entry) (turns : List (Option TurnItem)) (s : ℕ) → AllCome past → turns ≡ map (turn_at past) (sessions_of past) → was_opened s past ≡ true → IsOpened s turns
 turns-opened past turns s legal kept known =
     let within = opened-within s past legal known in
     let count : length turns ≡ length (sessions_of past) = ap (λ (l : List (Option TurnItem)). length l) kept ∙ length-map (sessions_of past) (turn_at past) in
     record { counted = within.0; opened = omega (arith, within.1, count) }
 
 -- an entry of one session changes that session's turn alone
-pub turns-changed : (past : List Entry) (e : Entry) (s : ℕ) (turns : List (Option TurnItem)) (item : Option TurnItem) → AllFollow past → turns ≡ map (turn_at past) (sessions_of past) →
+pub turns-changed : (past : List Entry) (e : Entry) (s : ℕ) (turns : List (Option TurnItem)) (item : Option TurnItem) → AllCome past → turns ≡ map (turn_at past) (sessions_of past) →
     was_opened s past ≡ true → sessions_of (e ∷ past) ≡ sessions_of past → item ≡ turn_at (e ∷ past) s → ((t : ℕ) → t ≢ s → turn_at (e ∷ past) t ≡ turn_at past t) →
     set turns (s - 1) item ≡ map (turn_at (e ∷ past)) (sessions_of (e ∷ past))
 turns-changed past e s turns item legal kept opened known here others =
     ap (λ (l : List (Option TurnItem)). set l (s - 1) item) kept ∙ ap (λ (i : Option TurnItem). set (map (turn_at past) (sessions_of past)) (s - 1) i) here
     ∙ list-changed (turn_at past) (turn_at (e ∷ past)) past s legal opened others ∙ ap (λ (l : List ℕ). map (turn_at (e ∷ past)) l) (sym known)
 
-same-turns : (f g : ℕ → Option TurnItem) → ((t : ℕ) → g t ≡ f t) → (sessions : List ℕ) → map f sessions ≡ map g sessions
-same-turns f g each [] = refl
-same-turns f g each (s ∷ sessions) = ap (λ (i : Option TurnItem). i ∷ map f sessions) (sym (each s)) ∙ ap (λ (l : List (Option TurnItem)). g s ∷ l) (same-turns f g each sessions)
-
 -- the turns after an admission
-pub admit-turns : (past : List Entry) (s k : ℕ) (lane : Lane) (input : Input) (turns : List (Option TurnItem)) → AllFollow past → turns ≡ map (turn_at past) (sessions_of past) → is_open s past ≡ true →
+pub admit-turns : (past : List Entry) (s k : ℕ) (lane : Lane) (input : Input) (turns : List (Option TurnItem)) → AllCome past → turns ≡ map (turn_at past) (sessions_of past) → is_open s past ≡ true →
     cond (is_in_band lane) (set turns (s - 1) (Some (turn_item past s))) turns ≡ map (turn_at (Admit s k lane input ∷ past)) (sessions_of past)
 admit-turns past s k InBand input turns legal kept opened =
     turns-changed past (Admit s k InBand input) s turns (Some (turn_item past s)) legal kept (open_opened s past opened) refl (sym (admit-turn s k input past opened)) (λ t. admit-turn-other s k t InBand input past)
-admit-turns past s k Oob input turns legal kept opened = kept ∙ same-turns (turn_at past) (turn_at (Admit s k Oob input ∷ past)) (λ t. oob-turn s k t input past) (sessions_of past)
+admit-turns past s k Oob input turns legal kept opened = kept ∙ same-each (turn_at past) (turn_at (Admit s k Oob input ∷ past)) (λ t. oob-turn s k t input past) (sessions_of past)
 
 -- an entry that is not refused is the next
 pub next-entry : (m : Fields) (new : View) (step : Step) (e : Entry) (journal : Reserved Entry) → None ≡ refusal_in (view_of m) step → e ≡ entry_of m.world (past_of m.journal.items) step →
@@ -132,7 +173,7 @@ pub drop-placed : (m : Fields) (s bytes : ℕ) (cause : Cause) → IsSound m →
     bytes ≡ length (entry_text_of (length m.journal.items + 1) (Drop s cause)) → bytes ≤ DROP_BYTES → IsPlaced (view_of m) (Drop s cause) bytes
 drop-placed m s bytes cause sound opened size small =
     let past = past_of m.journal.items in
-    let less = counts-drop past s cause sound.legal.ordered (is-open past s opened) in
+    let less = counts-drop past s cause (all-come m.world past sound.legal.ordered) (is-open past s opened) in
     record { bytes = size; room = record { entries = omega (arith, sound.room.entries, less); text = omega (arith, sound.room.text, less, small) } }
 
 few-bound : (mode : Mode) → bound_of mode ≤ PLACES

@@ -28,13 +28,14 @@ fn add(sent: &mut SentList, event: Option<Sent>) -> Result<(), NoMemory>
     }
 }
 
-fn add_all(sent: &mut SentList, events: SentList) -> Result<(), NoMemory>
-    ensures { OnOk result (sent.new ≡ sent.old ++ events) }
+/// Some events, and more after them.
+fn joined(events: SentList, more: SentList) -> Result<SentList, NoMemory>
+    ensures { IfOk result (λ all. all ≡ events ++ more) }
 {
-    for event in events.into_vec() {
-        sent.push(event)?;
-    }
-    Ok(())
+    let mut all = events.into_vec();
+    let mut more = more.into_vec();
+    all.append(&mut more)?;
+    Ok(SentList::from_vec(all))
 }
 
 /// Raises events one after the other.
@@ -87,9 +88,9 @@ impl Throttle {
             (Tick moment ∷ raises self.now.periods moment raised) told.sent told.throttle) }
     {
         let mut throttle = self.copy(alloc)?;
-        let mut sent = throttle.tick(alloc, moment)?;
+        let ended = throttle.tick(alloc, moment)?;
         let events = raise_each(alloc, &mut throttle, raised.into_vec(), moment)?;
-        add_all(&mut sent, events)?;
+        let sent = joined(ended, events)?;
         Ok(Told { throttle, sent })
     }
 }
