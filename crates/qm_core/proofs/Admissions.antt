@@ -4,9 +4,8 @@ use Rattle.qm_caps.specs.declared.mode.Lane.{Lane, TheVariants.InBand, TheVarian
 use Rattle.qm_core.specs.declared.entries.Entry.{Entry, TheVariants.Open, TheVariants.Admit, TheVariants.Start, TheVariants.Done, TheVariants.OobDone, TheVariants.Tick, TheVariants.Take, TheVariants.Eof, TheVariants.Drop}
 use Rattle.qm_core.specs.declared.{inputs.Input.Input, requests.Request.Request}
 use Rattle.qm_core.specs.Standing.{admitted_of, running_of, open_out_of_band_of, named_of}
-use Rattle.qm_core.proofs.Coming.{AllCome, Comes}
+use Rattle.qm_core.proofs.Coming.{AllCome, Comes, earlier-come}
 use Rattle.qm_core.proofs.Holding.{Holding, IsGood, AllGood, IsCounted, hold, hold-all, hold-map, counted, admitted-later, admitted-here}
-use Rattle.qm_core.proofs.Journals.{earlier}
 use Rattle.qm_core.proofs.Pasts.{named}
 
 -- under this name, the request has this lane and this input
@@ -46,7 +45,7 @@ other-names s k lane input (e ∷ later) past low legal =
 
 pub matched : (s k : ℕ) (lane : Lane) (input : Input) (later past : List Entry) → AllCome (later ++ Admit s k lane input ∷ past) → Holding (Matches s k lane input) (later ++ Admit s k lane input ∷ past)
 matched s k lane input later past legal =
-    let here = earlier later (Admit s k lane input ∷ past) legal in
+    let here = earlier-come later (Admit s k lane input ∷ past) legal in
     let count = admitted-here s k lane input past in
     hold-all (Matches s k lane input) later (Admit s k lane input ∷ past)
     (other-names s k lane input later (Admit s k lane input ∷ past) (omega (arith, here.0.next, count)) legal)

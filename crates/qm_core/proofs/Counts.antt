@@ -5,13 +5,13 @@ use Rattle.std.proofs.lemmas.Bool.{cases_eq}
 use Rattle.std.proofs.lemmas.List.Folds.{list_any-append}
 use Rattle.std.proofs.lemmas.List.Sums.{count_by-le-length}
 use Rattle.qm_core.specs.declared.entries.{Cause.Cause, Entry.Entry, Entry.TheVariants.Open, Entry.TheVariants.Drop}
-use Rattle.qm_core.specs.{Sessions.fresh as empty, declared.TheConstants.MOST_SESSIONS}
+use Rattle.qm_core.specs.declared.TheConstants.{MOST_SESSIONS}
 use Rattle.qm_core.specs.Standing.{sessions_of, was_opened, is_dropped, is_open, open_count_of}
 use Rattle.qm_core.proofs.Coming.{AllCome}
 use Rattle.qm_core.proofs.Counting.{unit, count-cons, count-push}
 use Rattle.qm_core.proofs.Numbers.{numbers_from}
 use Rattle.qm_core.proofs.Pasts.{differ, same, open_opened, sessions-are, opened-within, within-opened, past-not-opened, few-sessions}
-use Rattle.qm_core.proofs.Records.{was-open, untouched}
+use Rattle.qm_core.proofs.Journals.{dropped_opened}
 
 count-same : (p q : ℕ → Bool) (a n : ℕ) → ((t : ℕ) → a ≤ t → t < a + n → p t ≡ q t) → count_by p (numbers_from a n) ≡ count_by q (numbers_from a n)
 count-same p q a zero each = refl
@@ -42,7 +42,7 @@ counts-open past s legal next =
     let test : ℕ → Bool = λ t. is_open t (Open s ∷ past) in
     let parts : count_by test (sessions_of past ++ s ∷ []) ≡ count_by test (sessions_of past) + unit (test s) = count-push test (sessions_of past) s in
     let known : was_opened s (Open s ∷ past) ≡ true = list_any-append (λ u. u == s) (sessions_of past) (s ∷ []) ∙ last (was_opened s past) in
-    let fresh : is_dropped s past ≡ false = (was-open s past empty (untouched past s legal (past-not-opened s past legal (omega (arith, next))))).stays in
+    let fresh : is_dropped s past ≡ false = never (is_dropped s past) (dropped_opened s past legal) (past-not-opened s past legal (omega (arith, next))) in
     let here : test s ≡ true = rw (known, fresh) refl in
     let one : unit (test s) ≡ 1 = ap (λ (b : Bool). unit b) here in
     let before : count_by test (numbers_from 1 n) ≡ count_by (λ t. is_open t past) (numbers_from 1 n) = count-same test (λ t. is_open t past) 1 n (λ t low high. old t (within-opened t past legal (omega (arith, low)) (omega (arith, high)))) in
@@ -50,6 +50,10 @@ counts-open past s legal next =
     let first : count_by test (sessions_of past) ≡ open_count_of past =
     ap (λ (l : List ℕ). count_by test l) list ∙ before ∙ sym (ap (λ (l : List ℕ). count_by (λ t. is_open t past) l) list) in
     omega (arith, parts, one, first) where
+      never : (d : Bool) → (d ≡ true → was_opened s past ≡ true) → was_opened s past ≡ false → d ≡ false
+      never true opened none = absurd (let h : true ≡ false = sym (opened refl) ∙ none in cc)
+      never false opened none = refl
+
       last : (b : Bool) → (b || ((s == s) || false)) ≡ true
       last true = refl
       last false = rw (same s) refl

@@ -4,14 +4,13 @@ use Rattle.std.specs.List.{count_by, list_any}
 use Rattle.std.proofs.lemmas.Bool.{or_cases, Decides.nat_tests}
 use Rattle.std.proofs.lemmas.List.{nil_from_length}
 use Rattle.qm_core.specs.declared.entries.Entry.{Entry, TheVariants.Open, TheVariants.Admit, TheVariants.Start, TheVariants.Done, TheVariants.OobDone, TheVariants.Tick, TheVariants.Take, TheVariants.Eof, TheVariants.Drop}
-use Rattle.qm_core.specs.declared.requests.Request.{Request}
+use Rattle.qm_core.specs.declared.{requests.Request.Request, world.World.World}
 use Rattle.qm_core.specs.{Drained.is_drained, Requests.admits_request, Requests.replies_to}
 use Rattle.qm_core.specs.Standing.{admits, ends, admitted_of, is_dropped, is_ended, is_open, was_opened, in_flight_of, is_of, waiting_of, running_of, open_out_of_band_of}
 use Rattle.qm_core.specs.Transcript.{has_overrun, untaken_of}
-use Rattle.qm_core.proofs.Coming.{AllCome, Comes}
+use Rattle.qm_core.proofs.Coming.{AllCome, Comes, earlier-come}
 use Rattle.qm_core.proofs.Counting.{unit, count-cons, count-append}
 use Rattle.qm_core.proofs.Holding.{admitted-grows, admitted-here}
-use Rattle.qm_core.proofs.Journals.{earlier}
 use Rattle.qm_core.proofs.Pasts.{both, equal}
 use Rattle.qm_core.proofs.Replied.{admissions, has_number, is_named, stands, once}
 
@@ -100,9 +99,9 @@ not_of : (b : Bool) (n : ℕ) → n + cond b 1 0 ≡ 0 → b ≡ false
 not_of true n h = absurd (omega (arith, h))
 not_of false n h = refl
 
-pub drained-none : (s : ℕ) (past : List Entry) → is_drained s past ≡ true → HasNone s past
-drained-none s past h =
-    let parts = drained_parts (is_open s past) (is_ended s past) (in_flight_of s past == 0) (is_none (open_out_of_band_of s past)) (length (untaken_of s past) == 0) (not (has_overrun s past)) h in
+pub drained-none : (world : World) (s : ℕ) (past : List Entry) → is_drained world s past ≡ true → HasNone s past
+drained-none world s past h =
+    let parts = drained_parts (is_open s past) (is_ended s past) (in_flight_of s past == 0) (is_none (open_out_of_band_of s past)) (length (untaken_of world s past) == 0) (not (has_overrun world s past)) h in
     let flight : length (waiting_of s past) + cond (is_of s (running_of past)) 1 0 ≡ 0 = equal (in_flight_of s past) 0 parts.2 in
     record {
       stays = not_true (is_dropped s past) (both (was_opened s past) (not (is_dropped s past)) parts.0).1;
@@ -130,11 +129,11 @@ is-one k n low high =
     let second : nat_le k n ≡ true = grind (arith, nat_tests) in
     rw (first, second) refl
 
-pub drained-once : (s k : ℕ) (later past : List Entry) → AllCome (later ++ past) → is_drained s past ≡ true → list_any (admits_request s k) (later ++ past) ≡ true →
+pub drained-once : (world : World) (s k : ℕ) (later past : List Entry) → AllCome (later ++ past) → is_drained world s past ≡ true → list_any (admits_request s k) (later ++ past) ≡ true →
     count_by (replies_to s k) (later ++ past) ≡ 1
-drained-once s k later past legal drained admitted =
-    let before = earlier later past legal in
-    let none = drained-none s past drained in
+drained-once world s k later past legal drained admitted =
+    let before = earlier-come later past legal in
+    let none = drained-none world s past drained in
     let bounds = admitted-number s k (later ++ past) legal admitted in
     let count = ended-admits s later past legal none.ended in
     let here : count_by (replies_to s k) past ≡ 1 = replied-all s k past before none ∙ is-one k (admitted_of s past) bounds.0 (omega (arith, bounds.1, count)) in

@@ -11,8 +11,8 @@ use Rattle.qm_core.specs.declared.entries.Entry.{Entry, TheVariants.Open, TheVar
 use Rattle.qm_core.specs.declared.{requests.Request.Request}
 use Rattle.qm_core.specs.{Order.MayStart, Requests.replies_to}
 use Rattle.qm_core.specs.Standing.{admits, admitted_of, mode_of, waiting_of, running_of, open_out_of_band_of, named_of}
-use Rattle.qm_core.proofs.Coming.{AllCome, Comes}
-use Rattle.qm_core.proofs.{Counting.unit, Counting.count-cons, Counting.count-append, Journals.earlier}
+use Rattle.qm_core.proofs.Coming.{AllCome, Comes, earlier-come}
+use Rattle.qm_core.proofs.{Counting.unit, Counting.count-cons, Counting.count-append}
 use Rattle.qm_core.proofs.Holding.{counted, admitted-grows, admitted-later}
 use Rattle.qm_core.proofs.Pasts.{Begins, begins, begun, both, equal, same, named}
 use Rattle.qm_core.proofs.Replied.{no-more, once}
@@ -84,6 +84,7 @@ is-started s (Done t k plan reply moment ∷ past) legal =
 is-started s (OobDone t k plan reply moment ∷ past) legal =
     (let before = is-started s past legal.1 in let more = admitted-grows s (OobDone t k plan reply moment) past in record { least = before.least; runs = before.runs; within = omega (arith, before.within, more) })
 is-started s (Tick moment ∷ past) legal =
+    (let before = is-started s past legal.1 in let more = admitted-grows s (Tick moment) past in record { least = before.least; runs = before.runs; within = omega (arith, before.within, more) })
 is-started s (Take t lines ∷ past) legal =
     (let before = is-started s past legal.1 in let more = admitted-grows s (Take t lines) past in record { least = before.least; runs = before.runs; within = omega (arith, before.within, more) })
 is-started s (Eof t ∷ past) legal =
@@ -196,7 +197,7 @@ reply-low s j k (Admit t i lane input) plan reply moment later past legal may h 
 reply-low s j k (Start t i) plan reply moment later past legal may h = absurd cc
 reply-low s j k (Done t i p r m) plan reply moment later past legal may h =
     let parts = both (t == s) (i == k) h in
-    let done = earlier later (Done s j plan reply moment ∷ past) legal in
+    let done = earlier-come later (Done s j plan reply moment ∷ past) legal in
     let first = runs-started s j past done.1 done.0.running in
     let grown = started-later s later (Done s j plan reply moment ∷ past) legal in
     let runs = subst (λ (u : ℕ). named_of (running_of (later ++ Done s j plan reply moment ∷ past)) ≡ Some record { session = u; number = i }) (equal t s parts.0) may.running in
@@ -204,7 +205,7 @@ reply-low s j k (Done t i p r m) plan reply moment later past legal may h =
     omega (arith, first, grown, last, equal i k parts.1)
 reply-low s j k (OobDone t i p r m) plan reply moment later past legal may h =
     let parts = both (t == s) (i == k) h in
-    let done = earlier later (Done s j plan reply moment ∷ past) legal in
+    let done = earlier-come later (Done s j plan reply moment ∷ past) legal in
     let first = runs-known s j past done.1 done.0.running in
     let one = admitted-grows s (Done s j plan reply moment) past in
     let grown = admitted-later s later (Done s j plan reply moment ∷ past) in

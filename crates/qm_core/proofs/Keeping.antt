@@ -1,5 +1,5 @@
 -- What the fields of a monitor keep, after one more entry.
-use Rattle.std.proofs.Common.{◌≡◌, ◌≢◌, ℕ, zero, suc, ◌+◌, ◌-◌, ◌<◌, ◌≤◌, Bool, true, false, cond, Option, Some, None, is_some, max, ◌^◌, List, [], ◌∷◌, ◌++◌, length, map, get_or, refl, ap, sym, ◌∙◌, arith}
+use Rattle.std.proofs.Common.{◌≡◌, ◌≢◌, ℕ, zero, suc, ◌+◌, ◌-◌, ◌<◌, ◌≤◌, Bool, true, false, cond, Option, Some, None, is_some, max, ◌^◌, List, [], ◌∷◌, ◌++◌, length, map, get_or, refl, ap, append-nil, sym, subst, ◌∙◌, arith}
 use Rattle.std.specs.Option.{option_or}
 use Rattle.std.proofs.lemmas.List.{length-append, length-map, map-set, map_push, get_or-map}
 use Rattle.std.proofs.Math.ListN.{set}
@@ -10,7 +10,10 @@ use Rattle.qm_caps.specs.declared.mode.Lane.{Lane, TheVariants.InBand, TheVarian
 use Rattle.qm_queue.specs.{Turns.IsOpened}
 use Rattle.qm_queue.specs.declared.{ring.TheConstants.PLACES, turns.TurnItem.TurnItem}
 use Rattle.qm_core.specs.declared.{TheConstants.DROP_BYTES, entries.Cause.Cause, entries.StepFault.StepFault, entries.Entry.Entry, entries.Entry.TheVariants.Admit, entries.Entry.TheVariants.Open, entries.Entry.TheVariants.Drop, inputs.Input.Input, monitor.Monitor.TheInside.Inside as Fields, sessions.Place.Place}
-use Rattle.qm_core.specs.{Answers.IsAnswer, Legal.AllFollow, Legal.past_of, Order.MayCome, Order.MayFollow, State.events_at, Events.event_lines_of, Machines.Holds}
+use Rattle.qm_core.specs.{Answers.IsAnswer, Legal.AllFollow, Legal.past_of, Order.MayCome, Order.MayFollow, Effects.State, State.events_at, State.raises_at, State.raises_of, State.state_of, Events.event_lines_of, Machines.Brings, Machines.Holds, Machines.changed}
+use Rattle.qm_plan.specs.declared.events.Period.{Period}
+use Rattle.qm_throttle.specs.{Over.sent_over, Steps.Follows as Windows, Windows.Call}
+use Rattle.qm_core.specs.declared.machine.{Change.Change, Machine.Machine}
 use Rattle.qm_core.specs.Kept.{AreSessions, IsOpen, IsPlaced, IsRunning, IsSound, kept_of, refusal_in, view_of}
 use Rattle.qm_core.specs.Next.{Next, Step, View, entry_of}
 use Rattle.qm_core.specs.Sessions.{Kept, OfOpen, kept_at, session_at, told_events, turn_at, while_open}
@@ -32,6 +35,32 @@ pub record Follows (m new : Fields) (e : Entry) : Type 0 where
   pub moment : new.last_moment ≡ last_moment_of (e ∷ past_of m.journal.items)
   pub stopped : new.stopped ≡ is_stopped (e ∷ past_of m.journal.items)
   pub machine : Holds m.world (e ∷ past_of m.journal.items) new.machine
+
+-- an entry that changes and raises nothing
+pub same-machine : (world : World) (past : List Entry) (e : Entry) (machine : Machine) → state_of world (e ∷ past) ≡ state_of world past → raises_at world past e ≡ [] → Holds world past machine → Holds world (e ∷ past) machine
+same-machine world past e machine state quiet holds = record {
+  state = holds.state ∙ sym state;
+  periods = holds.periods;
+  windows = subst (λ (l : List Call). Windows machine.throttle l) (sym (append-nil (raises_of world past)) ∙ sym (ap (λ (l : List Call). raises_of world past ++ l) quiet)) holds.windows;
+}
+
+-- the change that an entry brings
+pub changed-machine : (world : World) (past : List Entry) (e : Entry) (machine : Machine) (next : State) (lines : List (List ℕ)) (change : Change) → Holds world past machine → Brings world machine next (raises_at world past e) lines change →
+    next ≡ state_of world (e ∷ past) → Holds world (e ∷ past) (changed machine change)
+changed-machine world past e machine next lines change holds brings is = record {
+  state = brings.state ∙ is;
+  periods = brings.sends.periods ∙ holds.periods;
+  windows = brings.sends.follows (raises_of world past) holds.windows;
+}
+
+-- and its lines
+pub changed-lines : (world : World) (past : List Entry) (e : Entry) (machine : Machine) (next : State) (lines : List (List ℕ)) (change : Change) → Holds world past machine → Brings world machine next (raises_at world past e) lines change →
+    lines ≡ event_lines_of world (events_at world past e)
+changed-lines world past e machine next lines change holds brings =
+    brings.sends.events (raises_of world past) holds.windows ∙ ap (λ (p : List Period). event_lines_of world (sent_over p (raises_of world past) (raises_at world past e))) holds.periods
+
+pub all-comes : (m : Fields) → IsSound m → AllCome (past_of m.journal.items)
+all-comes m sound = all-come m.world (past_of m.journal.items) sound.legal.ordered
 
 pub after_entry : (m new : Fields) (e : Entry) (bytes : ℕ) → IsSound m → MayFollow m.world (past_of m.journal.items) e → IsAnswer m.world (past_of m.journal.items) e →
     IsPlaced (view_of m) e bytes → Follows m new e → IsSound new

@@ -8,10 +8,10 @@ use Rattle.qm_admit.specs.Views.{string_of}
 use Rattle.qm_caps.specs.declared.mode.Lane.{Lane, TheVariants.Oob}
 use Rattle.qm_caps.specs.declared.mode.Mode.{Mode}
 use Rattle.qm_caps.specs.Lanes.{lane_of as value_lane_of}
-use Rattle.qm_plan.specs.{Stores.Contents, declared.recipes.Plan.Plan}
+use Rattle.qm_plan.specs.declared.recipes.Plan.{Plan}
 use Rattle.qm_core.specs.declared.entries.Entry.{Entry, TheVariants.Open, TheVariants.Admit, TheVariants.Start, TheVariants.Done, TheVariants.OobDone, TheVariants.Tick, TheVariants.Take, TheVariants.Eof, TheVariants.Drop}
 use Rattle.qm_core.specs.declared.{inputs.Input.Input, inputs.Input.TheVariants.Doc, inputs.Input.TheVariants.Bad, requests.Request.Request, world.World.World}
-use Rattle.qm_core.specs.{Inputs.arguments_of, Inputs.is_verb, Inputs.lane_of, Legal.IsLegal, Legal.past_of, Requests.names_out_of_band, State.store_of, State.stored}
+use Rattle.qm_core.specs.{Inputs.arguments_of, Inputs.is_verb, Inputs.lane_of, Legal.IsLegal, Legal.past_of, Requests.names_out_of_band, Effects.State, State.effect_by, State.state_of}
 use Rattle.qm_core.specs.{Planned.planned_for, Planned.plan_for, Planned.command_by, Replies.is_return, Replies.reply_to}
 use Rattle.qm_core.specs.Verdicts.{Refusal, Malformed, NoVerb, VerbNoString, UnknownCommand, NotOutOfBand, Verdict, Refused, refused_or, first_of, run_of, bad_arguments, misplaced, malformed, allows_out_of_band, command_verdict_of, verb_verdict_of, verdict_of}
 use Rattle.qm_core.proofs.Coming.{AllCome, Comes}
@@ -69,23 +69,23 @@ lanes [] legal = none-held HasLane
 lanes (e ∷ past) legal = hold HasLane e past (lane-good e past legal.0) (lanes past legal.1)
 
 -- a request that is refused has no plan, and its reply is an error
-pub record ChangesNothing (world : World) (before : Contents) (plan : Option Plan) (reply : Json) : Type 0 where
+pub record ChangesNothing (world : World) (before : State) (plan : Option Plan) (reply : Json) : Type 0 where
   pub error : is_return reply ≡ false
   pub none : plan ≡ None
-  pub store : stored world before plan reply ≡ before
+  pub effect : effect_by world before plan reply ≡ None
 
-refused-nothing : (world : World) (store : Contents) (q : Request) (plan : Option Plan) (reply : Json) → IsRefusal (verdict_of world q.mode q.input) → plan ≡ planned_for world q → reply ≡ reply_to world store q → ChangesNothing world store plan reply
+refused-nothing : (world : World) (store : State) (q : Request) (plan : Option Plan) (reply : Json) → IsRefusal (verdict_of world q.mode q.input) → plan ≡ planned_for world q → reply ≡ reply_to world store q → ChangesNothing world store plan reply
 refused-nothing world store q plan reply refused planned answer =
     let no_plan : plan ≡ None = planned ∙ ap (λ (v : Verdict). option_map (plan_for world q) (command_by v)) refused.is in
     record {
       error = ap is_return answer ∙ refused-error world store q refused.refusal refused.is;
       none = no_plan;
-      store = ap (λ (p : Option Plan). stored world store p reply) no_plan;
+      effect = ap (λ (p : Option Plan). effect_by world store p reply) no_plan;
     }
 
 pub oob-nothing : (world : World) (before between after : List Entry) (s k : ℕ) (lane : Lane) (input : Input) (plan : Option Plan) (reply : Json) (moment : ℕ) →
     IsLegal world (before ++ Admit s k lane input ∷ (between ++ OobDone s k plan reply moment ∷ after)) → names_out_of_band world input ≡ false →
-    ChangesNothing world (store_of world (reverse between ++ Admit s k lane input ∷ past_of before)) plan reply
+    ChangesNothing world (state_of world (reverse between ++ Admit s k lane input ∷ past_of before)) plan reply
 oob-nothing world before between after s k lane input plan reply moment legal none =
     let past = reverse between ++ Admit s k lane input ∷ past_of before in
     let here = placed_after world before (Admit s k lane input) between (OobDone s k plan reply moment) after legal in
@@ -93,4 +93,4 @@ oob-nothing world before between after s k lane input plan reply moment legal no
     let q = it.found in
     let oob : lane_of q.mode q.input ≡ Oob = sym ((lanes past here.before).opens s q it.is) in
     let refused = oob-refusal world q.mode q.input oob (ap (names_out_of_band world) it.of_input ∙ none) in
-    refused-nothing world (store_of world past) q plan reply refused (rw it.is at here.answer.planned) (rw it.is at here.answer.answer)
+    refused-nothing world (state_of world past) q plan reply refused (rw it.is at here.answer.planned) (rw it.is at here.answer.answer)

@@ -165,6 +165,9 @@ hears-told world t past e legal stays = either (was_opened t past) (is_negotiati
   either true false k n = rw (k, n, stays) refl
   either false negotiates k n = rw (k, negotiates-unopened world past t (all-come world past legal) k) refl
 
+kept-closed : (world : World) (s : ℕ) (past : List Entry) → is_dropped s past ≡ true → kept_at world past s ≡ OfClosed (rest_of (session_at world past s))
+kept-closed world s past closed = ap (λ (d : Bool). cond d (OfClosed (rest_of (session_at world past s))) (OfOpen (session_at world past s))) closed
+
 -- a session of which only events are heard
 pub only-hears : (world : World) (t : ℕ) (past : List Entry) (e : Entry) → AllFollow world past →
     session_at world (e ∷ past) t ≡ after_lines world past t (heard world t past e) → is_dropped t (e ∷ past) ≡ is_dropped t past → Hears world t e past
@@ -173,7 +176,8 @@ only-hears world t past e legal after dropped = either (is_dropped t past) refl 
   either true h =
       let closed : is_open t past ≡ false = rw h (ends_false (was_opened t past)) in
       let quiet : session_at world (e ∷ past) t ≡ session_at world past t = after ∙ ap (λ (l : List (List ℕ)). after_lines world past t l) (silent world t past e closed) in
-      rw (dropped, h, quiet) refl
+      kept-closed world t (e ∷ past) (dropped ∙ h) ∙ ap (λ (x : Session). OfClosed (rest_of x)) quiet
+      ∙ sym (ap (λ (k : Kept). while_open (told_events (event_lines_of world (events_at world past e))) k) (kept-closed world t past h))
   either false h =
       sym (open-changed world e t past (told_events (event_lines_of world (events_at world past e))) h (dropped ∙ h) (after ∙ sym (hears-told world t past e legal h)))
 
@@ -259,6 +263,7 @@ closed-none s (OobDone t k plan reply moment ∷ past) legal h = either (t == s)
   either : (b : Bool) → open_out_of_band_of s past ≡ None → cond b None (open_out_of_band_of s past) ≡ None
   either true none = refl
   either false none = none
+closed-none s (Tick moment ∷ past) legal h = closed-none s past legal.1 h
 closed-none s (Take t lines ∷ past) legal h = closed-none s past legal.1 h
 closed-none s (Eof t ∷ past) legal h = closed-none s past legal.1 h
 closed-none s (Drop t cause ∷ past) legal h = either (t == s) h (λ g. closed-none s past legal.1 g) where

@@ -168,6 +168,8 @@ stands s k (Open t ∷ past) legal =
     let replies = plain s k (Open t) past refl in
     stands-same s k (Open t) past (omega (arith, replies)) (no-more s (Open t) past refl) (λ h. h) (stands s k past legal.1)
 stands s k (Tick moment ∷ past) legal =
+    let replies = plain s k (Tick moment) past refl in
+    stands-same s k (Tick moment) past (omega (arith, replies)) (no-more s (Tick moment) past refl) (λ h. h) (stands s k past legal.1)
 stands s k (Take t lines ∷ past) legal =
     let replies = plain s k (Take t lines) past refl in
     stands-same s k (Take t lines) past (omega (arith, replies)) (no-more s (Take t lines) past refl) (λ h. h) (stands s k past legal.1)

@@ -7,11 +7,12 @@ use Rattle.qm_caps.specs.{Lanes.is_in_band, Modes.bound_of}
 use Rattle.qm_core.specs.declared.{TheConstants.MOST_SESSIONS, entries.Entry.Entry, entries.StepFault.StepFault}
 use Rattle.qm_core.specs.declared.entries.Entry.TheVariants as entry
 use Rattle.qm_core.specs.declared.entries.StepFault.TheVariants.{NoSession, Closed, InputEnded, OobOpen, Busy, Nothing, NotRunning, NotOpen, Stopping, SessionsFull}
-use Rattle.qm_core.specs.{declared.monitor.Limits.Limits, declared.requests.Request.Request, declared.requests.RequestName.RequestName, declared.inputs.Input.Input, declared.world.World.World, Answers.IsAnswer, Legal.past_of, Inputs.lane_of, Legal.AllFollow, Legal.IsLegal}
-use Rattle.qm_core.specs.Next.{Next, View, Step, Open, Admit, Start, Finish, FinishOob, Take, End, Drop, IsCleanStep, entry_of, start_entry, refusal_of, full_refusal, session_refusal, cause_fault, names, is_running, is_open_out_of_band, is_busy}
-use Rattle.qm_core.specs.Order.{MayCome, MayFollow, cause_holds}
+use Rattle.qm_core.specs.{declared.monitor.Limits.Limits, declared.requests.Request.Request, declared.requests.RequestName.RequestName, declared.inputs.Input.Input, declared.world.World.World, Answers.IsAnswer, Legal.past_of, Inputs.lane_of, Legal.IsLegal}
+use Rattle.qm_core.specs.Next.{Next, View, Step, Open, Admit, Start, Finish, FinishOob, Tick, Take, End, Drop, IsCleanStep, at_moment, entry_of, start_entry, refusal_of, full_refusal, session_refusal, cause_fault, names, is_running, is_open_out_of_band, is_busy}
+use Rattle.qm_core.specs.Order.{MayCome, MayFollow, cause_holds, is_due}
 use Rattle.qm_core.specs.Standing.{sessions_of, was_opened, is_dropped, is_ended, is_open, in_flight_of, mode_of, running_of, open_out_of_band_of, is_stopped, starting_of, named_of, last_moment_of}
 use Rattle.qm_core.specs.Transcript.{untaken_of}
+use Rattle.qm_core.proofs.Coming.{AllCome, all-come}
 use Rattle.qm_core.proofs.Journals.{legal-append}
 
 -- a refusal that did not come
@@ -31,10 +32,10 @@ open_first s past others h = opened (was_opened s past) (is_dropped s past) h wh
   opened true false h = (refl, h)
   opened false dropped h = absurd cc
 
-starts : (past : List Entry) (running starting : Option Request) → is_stopped past ≡ false → running ≡ running_of past → starting ≡ starting_of past → (is_some running || is_none starting) ≡ false → MayFollow past (start_entry (named_of starting))
-starts past None None going runs turn h = absurd cc
-starts past None (Some q) going runs turn h = record { going = going; idle = sym runs; turn = ap named_of (sym turn) }
-starts past (Some q) starting going runs turn h = absurd cc
+starts : (world : World) (past : List Entry) (running starting : Option Request) → is_stopped past ≡ false → running ≡ running_of past → starting ≡ starting_of past → (is_some running || is_none starting) ≡ false → MayFollow world past (start_entry (named_of starting))
+starts world past None None going runs turn h = absurd cc
+starts world past None (Some q) going runs turn h = record { going = going; idle = sym runs; turn = ap named_of (sym turn) }
+starts world past (Some q) starting going runs turn h = absurd cc
 
 named_is : (s k : ℕ) (running : Option RequestName) → names s k running ≡ true → running ≡ Some record { session = s; number = k }
 named_is s k None h = absurd cc
@@ -45,14 +46,14 @@ named_is s k (Some q) h =
     ap (λ (n : ℕ). Some record { session = n; number = q.number }) session ∙ ap (λ (n : ℕ). Some record { session = s; number = n }) number
 
 -- moments have 64 bits
-pub last-below : (past : List Entry) → AllFollow past → last_moment_of past < 2 ^ 64
+pub last-below : (past : List Entry) → AllCome past → last_moment_of past < 2 ^ 64
 last-below [] legal = omega arith
 last-below (entry.Open s ∷ past) legal = last-below past legal.1
 last-below (entry.Admit s k lane input ∷ past) legal = last-below past legal.1
 last-below (entry.Start s k ∷ past) legal = last-below past legal.1
 last-below (entry.Done s k plan reply moment ∷ past) legal = omega (arith, legal.0.timed.below, last-below past legal.1)
 last-below (entry.OobDone s k plan reply moment ∷ past) legal = omega (arith, legal.0.timed.below, last-below past legal.1)
-last-below (entry.Tick moment ∷ past) legal = last-below past legal.1
+last-below (entry.Tick moment ∷ past) legal = omega (arith, legal.0.timed.below, last-below past legal.1)
 last-below (entry.Take s lines ∷ past) legal = last-below past legal.1
 last-below (entry.Eof s ∷ past) legal = last-below past legal.1
 last-below (entry.Drop s why ∷ past) legal = last-below past legal.1
@@ -72,7 +73,7 @@ below s past input h in_band = tests (is_in_band (lane_of (mode_of s past) input
 comes : (past : List Entry) (moment : ℕ) → last_moment_of past < 2 ^ 64 → moment < 2 ^ 64 → MayCome past (max moment (last_moment_of past))
 comes past moment small clean = record { later = omega arith; below = omega (arith, small, clean) }
 
-pub may_follow : (world : World) (limits : Limits) (past : List Entry) (step : Step) → last_moment_of past < 2 ^ 64 → IsCleanStep step → None ≡ refusal_of world limits past step → MayFollow past (entry_of world past step)
+pub may_follow : (world : World) (limits : Limits) (past : List Entry) (step : Step) → last_moment_of past < 2 ^ 64 → IsCleanStep step → None ≡ refusal_of world limits past step → MayFollow world past (entry_of world past step)
 may_follow world limits past Open small clean h =
     (let full = full_refusal limits past (entry_of world past Open) in
     let many = nat_le MOST_SESSIONS (length (sessions_of past)) in
@@ -94,7 +95,7 @@ may_follow world limits past Start small clean h =
     (let full = full_refusal limits past (entry_of world past Start) in
     let idle = is_some (running_of past) || is_none (starting_of past) in
     let going = passed (is_stopped past) Stopping (if idle then Some Nothing else full) h in
-    starts past (running_of past) (starting_of past) going.0 refl refl (passed idle Nothing full going.1).0)
+    starts world past (running_of past) (starting_of past) going.0 refl refl (passed idle Nothing full going.1).0)
 may_follow world limits past (Finish s k moment) small clean h =
     (let full = full_refusal limits past (entry_of world past (Finish s k moment)) in
     record { running = named_is s k (named_of (running_of past)) (held (is_running s k past) NotRunning full h).0; timed = comes past moment small clean })
@@ -102,18 +103,23 @@ may_follow world limits past (FinishOob s k moment) small clean h =
     (let full = full_refusal limits past (entry_of world past (FinishOob s k moment)) in
     let first = open_first s past (if is_open_out_of_band s k past then full else Some NotOpen) h in
     record { is_open = first.0; request = named_is s k (named_of (open_out_of_band_of s past)) (held (is_open_out_of_band s k past) NotOpen full first.1).0; timed = comes past moment small clean })
+may_follow world limits past (Tick moment) small clean h =
+    (let full = full_refusal limits past (entry_of world past (Tick moment)) in
+    let due = is_due world past (at_moment moment past) in
+    let going = passed (is_stopped past) Stopping (if due then full else Some Nothing) h in
+    record { going = going.0; due = (held due Nothing full going.1).0; timed = comes past moment small clean })
 may_follow world limits past (Take s) small clean h =
     (let full = full_refusal limits past (entry_of world past (Take s)) in
-    let first = open_first s past (if length (untaken_of s past) == 0 then Some Nothing else full) h in
-    let some : (length (untaken_of s past) == 0) ≡ false = (passed (length (untaken_of s past) == 0) Nothing full first.1).0 in
+    let first = open_first s past (if length (untaken_of world s past) == 0 then Some Nothing else full) h in
+    let some : (length (untaken_of world s past) == 0) ≡ false = (passed (length (untaken_of world s past) == 0) Nothing full first.1).0 in
     record { is_open = first.0; some = grind (arith, nat_tests, some); all = refl })
 may_follow world limits past (End s) small clean h =
     (let full = full_refusal limits past (entry_of world past (End s)) in
     let first = open_first s past (if is_ended s past then Some InputEnded else full) h in
     record { is_open = first.0; more = (passed (is_ended s past) InputEnded full first.1).0 })
 may_follow world limits past (Drop s why) small clean h =
-    (let first = open_first s past (if cause_holds past s why then None else Some (cause_fault why)) h in
-    record { is_open = first.0; holds = (held (cause_holds past s why) (cause_fault why) None first.1).0 })
+    (let first = open_first s past (if cause_holds world past s why then None else Some (cause_fault why)) h in
+    record { is_open = first.0; holds = (held (cause_holds world past s why) (cause_fault why) None first.1).0 })
 
 pub is_answer : (world : World) (past : List Entry) (step : Step) → IsAnswer world past (entry_of world past step)
 is_answer world past Open = tt
@@ -124,6 +130,7 @@ is_answer world past Start = of_start (named_of (starting_of past)) where
   of_start (Some q) = tt
 is_answer world past (Finish s k moment) = record { planned = refl; answer = refl }
 is_answer world past (FinishOob s k moment) = record { planned = refl; answer = refl }
+is_answer world past (Tick moment) = tt
 is_answer world past (Take s) = tt
 is_answer world past (End s) = tt
 is_answer world past (Drop s why) = tt
@@ -133,4 +140,4 @@ next_legal old step (Some f) new next clean legal = rw (next.journal, next.world
 next_legal old step None new next clean legal =
     let past = past_of old.journal in
     rw (next.journal, next.world) (legal-append old.world old.journal (entry_of old.world past step) legal
-    (may_follow old.world old.limits past step (last-below past legal.ordered) clean next.answer) (is_answer old.world past step))
+    (may_follow old.world old.limits past step (last-below past (all-come old.world past legal.ordered)) clean next.answer) (is_answer old.world past step))

@@ -19,7 +19,7 @@ pub record Holds (world : World) (past : List Entry) (machine : Machine) : Type 
 -- what is sent of calls of a throttle: the lines of the events, and the throttle after the calls, where it is another
 pub record Sends (world : World) (throttle : Throttling) (calls : List Call) (lines : List (List ℕ)) (after : Option Throttling) : Type 0 where
   pub periods : (unwrap_or after throttle).periods ≡ throttle.periods
-  pub lines : (past : List Call) → Follows throttle past → lines ≡ event_lines_of world (sent_over throttle.periods past calls)
+  pub events : (past : List Call) → Follows throttle past → lines ≡ event_lines_of world (sent_over throttle.periods past calls)
   pub follows : (past : List Call) → Follows throttle past → Follows (unwrap_or after throttle) (past ++ calls)
 
 -- a machine after a change

@@ -1,4 +1,4 @@
-ghost use Rattle.std.specs.Prelude.{◌≡◌, ◌≤◌, [], ◌∷◌, ◌++◌, length, true, OnOk, OnErr};
+ghost use Rattle.std.specs.Prelude.{◌≡◌, ◌≤◌, ◌-◌, [], ◌∷◌, ◌++◌, length, take, true, OnOk, OnErr};
 ghost use Rattle.qm_core.specs.Sessions.{fits as fits_into};
 ghost use Rattle.qm_core.specs.Transcript.{wire_of};
 ghost use Rattle.qm_core.specs.declared.TheConstants.{MOST_UNTAKEN};
