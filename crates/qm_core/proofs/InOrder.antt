@@ -212,7 +212,7 @@ reply-low s j k (OobDone t i p r m) plan reply moment later past legal may h =
     let opens = subst (λ (u : ℕ). named_of (open_out_of_band_of u (later ++ Done s j plan reply moment ∷ past)) ≡ Some record { session = u; number = i }) (equal t s parts.0) may.request in
     let last = opens-known s i (later ++ Done s j plan reply moment ∷ past) legal opens in
     omega (arith, first, one, grown, last, equal i k parts.1)
-reply-low s j k (Tick moment) plan reply moment later past legal may h = absurd cc
+reply-low s j k (Tick now) plan reply moment later past legal may h = absurd cc
 reply-low s j k (Take t lines) plan reply moment later past legal may h = absurd cc
 reply-low s j k (Eof t) plan reply moment later past legal may h = absurd cc
 reply-low s j k (Drop t cause) plan reply moment later past legal may h = absurd cc

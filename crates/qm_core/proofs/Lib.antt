@@ -14,6 +14,7 @@ pub mod JobActs
 pub mod Journals
 pub mod Keeping
 pub mod Lists
+pub mod Marks
 pub mod Numbers
 pub mod OutOfBand
 pub mod Pasts
@@ -24,5 +25,6 @@ pub mod StepLaws
 pub mod StoreLaws
 pub mod Texts
 pub mod Transcripts
+pub mod Ticks
 pub mod TurnLaws
 pub mod Turns

@@ -5,6 +5,7 @@ use Rattle.std.proofs.lemmas.List.{length-append}
 use Rattle.std.proofs.lemmas.List.Folds.{list_any-append}
 use Rattle.qm_caps.specs.declared.mode.Lane.{Lane, TheVariants.InBand, TheVariants.Oob}
 use Rattle.qm_queue.specs.{Turns.turn_of as first_turn, Turns.waiting_in, declared.turns.TurnItem.TurnItem}
+use Rattle.qm_core.specs.declared.world.World.{World}
 use Rattle.qm_core.specs.declared.entries.{Cause.Cause, Entry.Entry}
 use Rattle.qm_core.specs.declared.entries.Entry.TheVariants.{Open, Admit, Start, Drop}
 use Rattle.qm_core.specs.declared.{inputs.Input.Input}
@@ -42,9 +43,9 @@ open-turn-other s t past ne =
       or_false true = refl
       or_false false = refl
 
-pub open-turn : (s : ℕ) (past : List Entry) → AllCome past → was_opened s past ≡ false → turn_at (Open s ∷ past) s ≡ None
-open-turn s past legal none =
-    let nothing : waiting_of s past ≡ [] = ap (λ (x : Session). x.waiting) (was-open s past fresh (untouched past s legal none)).state in
+pub open-turn : (world : World) (s : ℕ) (past : List Entry) → AllCome past → was_opened s past ≡ false → turn_at (Open s ∷ past) s ≡ None
+open-turn world s past legal none =
+    let nothing : waiting_of s past ≡ [] = ap (λ (x : Session). x.waiting) (was-open world s past fresh (untouched world past s legal none)).state in
     rw nothing (ap (λ (b : Bool). cond b (Some (turn_item (Open s ∷ past) s)) None) (and_false (is_open s (Open s ∷ past))))
 
 -- a request is admitted

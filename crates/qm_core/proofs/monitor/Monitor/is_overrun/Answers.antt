@@ -5,4 +5,4 @@ use Rattle.qm_core.proofs.Records.{was-open}
 use Rattle.qm_core.proofs.monitor.Monitor.is_overrun.Goals as goal
 
 pub returns-else-is_known : goal.returns-else-is_known
-returns-else-is_known c = c.if-is_known.false ∙ sym (ap (λ (x : Session). x.overrun) (was-open c.self.inside.world c.args.session (past_of c.args.self.now.journal) fresh (c.is_known.ensures.untouched c.if-is_known.false)).state)
+returns-else-is_known c = c.if-is_known.false ∙ sym (ap (λ (x : Session). x.overrun) (was-open c.args.self.now.world c.args.session (past_of c.args.self.now.journal) fresh (c.is_known.ensures.untouched c.if-is_known.false)).state)

@@ -27,7 +27,7 @@ invariant_of-self-2 c =
     let here : kept_of new ≡ kept_at c.self.inside.world (Open s ∷ past) s =
     c.in_ok-place.ensures ∙ ap (λ (l : List ℕ). OfOpen (sent fresh l)) line ∙ sym (open-here c.self.inside.world s past sound.legal.ordered none) in
     let turns : c.self.inside.turns ++ None ∷ [] ≡ map (turn_at (Open s ∷ past)) (sessions_of past ++ s ∷ []) =
-    ap (λ (l : List (Option TurnItem)). l ++ None ∷ []) sound.turns ∙ ap (λ (i : Option TurnItem). map (turn_at past) (sessions_of past) ++ i ∷ []) (sym (open-turn s past (all-comes c.self.inside sound) none))
+    ap (λ (l : List (Option TurnItem)). l ++ None ∷ []) sound.turns ∙ ap (λ (i : Option TurnItem). map (turn_at past) (sessions_of past) ++ i ∷ []) (sym (open-turn c.self.inside.world s past (all-comes c.self.inside sound) none))
     ∙ list-more (turn_at past) (turn_at (Open s ∷ past)) past s (all-comes c.self.inside sound) ok.next (λ t. open-turn-other s t past) in
     after_entry c.self.inside _ (Open s) _ sound record { going = ok.going; next = ok.next; few = ok.few } tt ok.placed record {
       world = refl;
