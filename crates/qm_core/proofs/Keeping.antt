@@ -10,7 +10,9 @@ use Rattle.qm_caps.specs.declared.mode.Lane.{Lane, TheVariants.InBand, TheVarian
 use Rattle.qm_queue.specs.{Turns.IsOpened}
 use Rattle.qm_queue.specs.declared.{ring.TheConstants.PLACES, turns.TurnItem.TurnItem}
 use Rattle.qm_core.specs.declared.{TheConstants.DROP_BYTES, entries.Cause.Cause, entries.StepFault.StepFault, entries.Entry.Entry, entries.Entry.TheVariants.Admit, entries.Entry.TheVariants.Open, entries.Entry.TheVariants.Drop, inputs.Input.Input, monitor.Monitor.TheInside.Inside as Fields, sessions.Place.Place}
-use Rattle.qm_core.specs.{Answers.IsAnswer, Legal.AllFollow, Legal.past_of, Order.MayCome, Order.MayFollow, Effects.State, State.events_at, State.raises_at, State.raises_of, State.state_of, Events.event_lines_of, Machines.Brings, Machines.Holds, Machines.changed}
+use Rattle.qm_core.specs.{Answers.IsAnswer, Legal.AllFollow, Legal.past_of, Order.MayCome, Order.MayFollow, Effects.State, State.events_at, State.raises_at, State.raises_of, State.state_of, Events.event_lines_of, Machines.Brings, Machines.Holds, Machines.changed, Machines.state_in_machine, Machines.ticked_calls, Machines.ticked_state, State.effect_by, State.left_by, State.raises_by}
+use Rattle.qm_plan.specs.declared.recipes.Plan.{Plan}
+use Rattle.qm_json.specs.declared.value.Json.{Json}
 use Rattle.qm_plan.specs.declared.events.Period.{Period}
 use Rattle.qm_throttle.specs.{Over.sent_over, Steps.Follows as Windows, Windows.Call}
 use Rattle.qm_core.specs.declared.machine.{Change.Change, Machine.Machine}
@@ -21,7 +23,7 @@ use Rattle.qm_core.specs.Telling.{AreTold, all_told, changed_at}
 use Rattle.qm_core.specs.declared.{sessions.Session.Session, world.World.World}
 use Rattle.qm_core.specs.Texts.{entry_text_of}
 use Rattle.qm_core.specs.Standing.{sessions_of, was_opened, is_open, is_stopped, in_flight_of, mode_of, turn_item, waiting_of, open_count_of, last_moment_of}
-use Rattle.qm_core.proofs.{Coming.AllCome, Coming.all-come, Counts.counts-drop, Journals.legal-append, Journals.past_of-append, Lists.list-at, Lists.list-changed, Lists.list-more, Pasts.open_opened, Pasts.opened-within, Records.Hears, Records.Stays, Records.kept-open, Records.open-other, Texts.text_more, Turns.admit-turn, Turns.admit-turn-other, Turns.oob-turn}
+use Rattle.qm_core.proofs.{Coming.AllCome, Coming.all-come, Counts.counts-drop, Journals.legal-append, Journals.past_of-append, Lists.list-at, Lists.list-changed, Lists.list-more, Marks.changed-set, Pasts.open_opened, Pasts.opened-within, Records.Hears, Records.Stays, Records.kept-open, Records.open-other, Texts.text_more, Turns.admit-turn, Turns.admit-turn-other, Turns.oob-turn}
 
 -- the fields after an entry are what stands after it
 pub record Follows (m new : Fields) (e : Entry) : Type 0 where
@@ -52,6 +54,23 @@ changed-machine world past e machine next lines change holds brings is = record 
   periods = brings.sends.periods ∙ holds.periods;
   windows = brings.sends.follows (raises_of world past) holds.windows;
 }
+
+-- the change of a reply, by the past
+pub reply-brings : (world : World) (past : List Entry) (machine : Machine) (plan : Option Plan) (reply answer : Json) (moment : ℕ) (lines : List (List ℕ)) (change : Change) →
+    state_in_machine machine ≡ state_of world past → reply ≡ answer →
+    (let before = state_in_machine machine in let effect = effect_by world before plan answer in Brings world machine (left_by before effect) (raises_by world moment effect) lines change) →
+    (let before = state_of world past in let effect = effect_by world before plan reply in Brings world machine (left_by before effect) (raises_by world moment effect) lines change)
+reply-brings world past machine plan reply answer moment lines change state is brings =
+    subst (λ (s : State). Brings world machine (left_by s (effect_by world s plan reply)) (raises_by world moment (effect_by world s plan reply)) lines change) state
+    (subst (λ (r : Json). Brings world machine (left_by (state_in_machine machine) (effect_by world (state_in_machine machine) plan r)) (raises_by world moment (effect_by world (state_in_machine machine) plan r)) lines change) (sym is) brings)
+
+-- the change of a tick, by the past
+pub tick-brings : (world : World) (past : List Entry) (machine : Machine) (moment : ℕ) (lines : List (List ℕ)) (change : Change) → Holds world past machine →
+    Brings world machine (ticked_state (state_in_machine machine)) (ticked_calls world machine.throttle.periods (state_in_machine machine) moment) lines change →
+    Brings world machine (ticked_state (state_of world past)) (ticked_calls world world.binding.periods (state_of world past) moment) lines change
+tick-brings world past machine moment lines change holds brings =
+    subst (λ (s : State). Brings world machine (ticked_state s) (ticked_calls world world.binding.periods s moment) lines change) holds.state
+    (subst (λ (p : List Period). Brings world machine (ticked_state (state_in_machine machine)) (ticked_calls world p (state_in_machine machine) moment) lines change) holds.periods brings)
 
 -- and its lines
 pub changed-lines : (world : World) (past : List Entry) (e : Entry) (machine : Machine) (next : State) (lines : List (List ℕ)) (change : Change) → Holds world past machine → Brings world machine next (raises_at world past e) lines change →
@@ -131,11 +150,6 @@ sessions-heard world past e lines places new kept known sends told all =
     told ∙ ap (λ (l : List (List ℕ)). all_told l (map kept_of places)) sends
     ∙ ap (all_told (event_lines_of world (events_at world past e))) kept ∙ told-map (event_lines_of world (events_at world past e)) (kept_at world past) (sessions_of past)
     ∙ same-each (heard_by world past e) (kept_at world (e ∷ past)) all (sessions_of past) ∙ ap (λ (l : List ℕ). map (kept_at world (e ∷ past)) l) (sym known)
-
-changed-set : (n : ℕ) (f : Session → Session) (l : List Kept) (d : Kept) → n < length l → changed_at n f l ≡ set l n (while_open f (get_or l n d))
-changed-set n f [] d within = absurd (omega (arith, within))
-changed-set zero f (k ∷ l) d within = refl
-changed-set (suc n) f (k ∷ l) d within = ap (λ (l : List Kept). k ∷ l) (changed-set n f l d (omega (arith, within)))
 
 -- an entry at which all sessions are told of events, and then one a reply
 pub sessions-told : (world : World) (past : List Entry) (e : Entry) (s : ℕ) (lines : List (List ℕ)) (reply : Session → Session) (places new : List Place) → AllCome past → AreSessions world past places →
@@ -221,6 +235,22 @@ refused_before (Some other) test own full fault told some = told
 refused_before None false own full fault told some = told
 refused_before None true own full (Some fault) told some = absurd cc
 refused_before None true own full None told some = absurd cc
+
+-- or the journal is full
+full_is : (first : Option StepFault) (test : Bool) (own : StepFault) (full : Option StepFault) → None ≡ option_or first (cond test None (Some own)) → full ≡ option_or first (cond test full (Some own))
+full_is (Some other) test own full told = absurd cc
+full_is None false own full told = absurd cc
+full_is None true own full told = refl
+
+pub next-full : (m : View) (step : Step) (first : Option StepFault) (test : Bool) (own : StepFault) (full fault : Option StepFault) → refusal_in m step ≡ option_or first (cond test full (Some own)) →
+    None ≡ option_or first (cond test None (Some own)) → fault ≡ full → is_some fault ≡ true → Next m step fault m
+next-full m step first test own full (Some fault) is told room some = record {
+  answer = room ∙ full_is first test own full told ∙ sym is;
+  journal = refl;
+  limits = refl;
+  world = refl;
+}
+next-full m step first test own full None is told room some = absurd cc
 
 pub next-refused : (m : View) (step : Step) (first : Option StepFault) (test : Bool) (own : StepFault) (full fault : Option StepFault) → refusal_in m step ≡ option_or first (cond test full (Some own)) →
     fault ≡ option_or first (cond test None (Some own)) → is_some fault ≡ true → Next m step fault m

@@ -73,9 +73,9 @@ fn tell_each(
         ≡ all_told lines.now (map kept_of places.old.items)) }
     ensures back { LeadsBack (map kept_of places.old.items) marks.new.items (map kept_of places.new.items) }
 {
-    for place in places.iter_mut() {
-        marks.push(mark_in(place))?;
-        tell_events(place, lines)?;
+    for at in 0..places.len() {
+        marks.push(mark_in(&places[at]))?;
+        tell_events(&mut places[at], lines)?;
     }
     Ok(())
 }

@@ -167,11 +167,13 @@ fn tell_answer(
 {
     let line = answer.line.again()?;
     let marks = tell_all(alloc, places, &answer.events)?;
-    if tell(&mut places[at], line, lane, answer.negotiates, plan).is_err() {
-        take_back(places, marks.as_slice());
-        return Err(NoMemory);
+    match tell(&mut places[at], line, lane, answer.negotiates, plan) {
+        Ok(()) => Ok(()),
+        Err(NoMemory) => {
+            take_back(places, marks.as_slice());
+            Err(NoMemory)
+        }
     }
-    Ok(())
 }
 
 /// The request, if it has this session and this number.
