@@ -33,8 +33,12 @@ const ORDERS: &str = r#"
 {"commands": {"get": {}, "x": {}, "put": 1}} | unknown-command x
 {"commands": {"put": 1, "x": {}}} | bad-recipe put
 {"events": {"NONE": {}}, "commands": {"x": {}}} | unknown-command x
-{"events": {"NOTE": {}}} | bad-period NOTE
-{"events": {"NONE": {}}, "commands": {"put": {}}} | bad-period NONE
+{"events": {"NOTE": {}}} | ok
+{"events": {"NONE": {}}, "commands": {"put": {}}} | unknown-event NONE
+{"events": {"NOTE": 1}, "commands": {"put": 1}} | bad-recipe put
+{"events": {"NOTE": 1, "NONE": {}}} | bad-period NOTE
+{"events": {"NONE": {}, "NOTE": 1}} | unknown-event NONE
+{"events": {"NONE": 1}, "commands": {"put": {"acts": [{"raise": "GONE"}]}}} | unknown-event GONE
 {"commands": {"quit": {}}} | unknown-command quit
 {"commands": {"qmp_capabilities": {}}} | unknown-command qmp_capabilities
 {"commands": {"query-jobs": {}}} | unknown-command query-jobs
@@ -55,9 +59,114 @@ const ACTS: &str = r#"
 {"tallies": ["t"], "commands": {"put": {"acts": [{"add": "t", "by": 4294967295}, {"fail": "no"}]}}} | ok
 {"tallies": ["t"], "commands": {"put": {"acts": [{"add": "t", "by": 1.0}]}}} | bad-recipe put
 {"cells": {"t": 1}, "commands": {"put": {"acts": [{"add": "t", "by": 1}]}}} | bad-recipe put
-{"commands": {"put": {"acts": [{"raise": "NOTE"}]}}} | bad-recipe put
-{"commands": {"make": {"acts": [{"start": {"id": {"arg": "id"}, "units": 2}}]}}} | bad-recipe make
 {"commands": {"put": {"acts": [{"fail": 1}]}}} | bad-recipe put
+"#;
+
+/// Acts that raise events.
+const RAISES: &str = r#"
+{"commands": {"put": {"acts": [{"raise": "NOTE"}]}}} | ok
+{"commands": {"put": {"acts": [{"raise": "JOB_STATUS_CHANGE"}]}}} | ok
+{"commands": {"put": {"acts": [{"raise": "note"}]}}} | unknown-event note
+{"commands": {"put": {"acts": [{"raise": ""}]}}} | unknown-event
+{"commands": {"put": {"acts": [{"raise": 1}]}}} | bad-recipe put
+{"commands": {"put": {"acts": [{"raise": {"const": "NOTE"}}]}}} | bad-recipe put
+{"commands": {"put": {"acts": [{"raise": "NOTE", "data": {"args": true}}]}}} | ok
+{"commands": {"put": {"acts": [{"data": {"const": 1}, "raise": "NOTE"}]}}} | ok
+{"commands": {"put": {"acts": [{"raise": "NOTE", "data": {"arg": "note"}}]}}} | ok
+{"commands": {"put": {"acts": [{"raise": "NOTE", "data": {"arg": "n"}}]}}} | bad-recipe put
+{"commands": {"put": {"acts": [{"raise": "NOTE", "data": null}]}}} | bad-recipe put
+{"commands": {"put": {"acts": [{"raise": "NOTE", "by": 1}]}}} | bad-recipe put
+{"commands": {"put": {"acts": [{"data": {"const": {}}}]}}} | bad-recipe put
+{"commands": {"put": {"acts": [{}]}}} | bad-recipe put
+{"commands": {"put": {"acts": [{"raise": "NONE", "by": 1}]}}} | unknown-event NONE
+{"commands": {"put": {"acts": [{"by": 1, "raise": "NONE"}]}}} | unknown-event NONE
+{"commands": {"put": {"acts": [{"raise": "NONE"}, {"fail": 1}]}}} | unknown-event NONE
+{"commands": {"put": {"acts": [{"fail": 1}, {"raise": "NONE"}]}}} | bad-recipe put
+{"commands": {"put": {"acts": [{"raise": "NOTE"}, {"raise": "A"}, {"raise": "B"}]}}} | unknown-event A
+{"commands": {"put": {"acts": [{"raise": "NONE"}], "return": 1}}} | unknown-event NONE
+{"commands": {"put": {"return": 1, "acts": [{"raise": "NONE"}]}}} | bad-recipe put
+{"commands": {"put": {"return": {"args": true}, "acts": [{"raise": "NONE"}]}}} | unknown-event NONE
+{"commands": {"put": {"act": [], "acts": [{"raise": "NONE"}]}}} | bad-recipe put
+{"commands": {"put": {"wait": "no", "acts": [{"raise": "NONE"}]}}} | bad-recipe put
+{"commands": {"put": {"wait": "hold", "acts": [{"raise": "NONE"}]}}} | unknown-event NONE
+{"commands": {"put": {"wait": "hold", "acts": [{"raise": "NOTE"}]}}} | bad-recipe put
+{"commands": {"put": {"acts": {"raise": "NONE"}}}} | bad-recipe put
+{"commands": {"put": {"acts": [{"raise": "NONE"}]}, "x": {}}} | unknown-event NONE
+{"commands": {"x": {"acts": [{"raise": "NONE"}]}}} | unknown-command x
+"#;
+
+/// Acts that start jobs.
+const STARTS: &str = r#"
+{"commands": {"make": {"acts": [{"start": {"id": {"arg": "id"}, "units": 2}}]}}} | ok
+{"commands": {"make": {"acts": [{"start": {"units": 2, "id": {"const": "j"}}}]}}} | ok
+{"commands": {"make": {"acts": [{"start": {"id": {"const": ""}, "units": 2}}]}}} | ok
+{"commands": {"make": {"acts": [{"start": {"id": {"const": 1}, "units": 2}}]}}} | bad-recipe make
+{"commands": {"make": {"acts": [{"start": {"id": "j", "units": 2}}]}}} | bad-recipe make
+{"commands": {"make": {"acts": [{"start": {"id": {"args": true}, "units": 2}}]}}} | bad-recipe make
+{"commands": {"make": {"acts": [{"start": {"id": {"arg": "ID"}, "units": 2}}]}}} | bad-recipe make
+{"commands": {"make": {"acts": [{"start": {"id": {"const": "j", "arg": "id"}, "units": 2}}]}}} | bad-recipe make
+{"cells": {"c": "j"}, "commands": {"make": {"acts": [{"start": {"id": {"cell": "c"}, "units": 2}}]}}} | bad-recipe make
+{"commands": {"note": {"acts": [{"start": {"id": {"arg": "port"}, "units": 2}}]}}} | ok
+{"commands": {"note": {"acts": [{"start": {"id": {"arg": "n"}, "units": 2}}]}}} | bad-recipe note
+{"commands": {"put": {"acts": [{"start": {"id": {"arg": "note"}, "units": 2}}]}}} | bad-recipe put
+{"commands": {"set": {"acts": [{"start": {"id": {"arg": "mode"}, "units": 2}}]}}} | bad-recipe set
+{"commands": {"set": {"acts": [{"start": {"id": {"arg": "tag"}, "units": 2}}]}}} | bad-recipe set
+{"commands": {"set": {"acts": [{"start": {"id": {"arg": "level"}, "units": 2}}]}}} | bad-recipe set
+{"commands": {"pick": {"acts": [{"start": {"id": {"arg": "owner"}, "units": 2}}]}}} | ok
+{"commands": {"pick": {"acts": [{"start": {"id": {"arg": "track"}, "units": 2}}]}}} | bad-recipe pick
+{"commands": {"pick": {"return": {"arg": "track"}}}} | ok
+{"commands": {"free": {"acts": [{"start": {"id": {"arg": "id"}, "units": 2}}]}}} | bad-recipe free
+{"commands": {"free": {"acts": [{"start": {"id": {"const": "id"}, "units": 2}}]}}} | ok
+{"commands": {"make": {"acts": [{"start": {"id": {"arg": "id"}}}]}}} | bad-recipe make
+{"commands": {"make": {"acts": [{"start": {"units": 2}}]}}} | bad-recipe make
+{"commands": {"make": {"acts": [{"start": {"id": {"arg": "id"}, "units": 0}}]}}} | bad-recipe make
+{"commands": {"make": {"acts": [{"start": {"id": {"arg": "id"}, "units": 1}}]}}} | ok
+{"commands": {"make": {"acts": [{"start": {"id": {"arg": "id"}, "units": 1000000}}]}}} | ok
+{"commands": {"make": {"acts": [{"start": {"id": {"arg": "id"}, "units": 1000001}}]}}} | bad-recipe make
+{"commands": {"make": {"acts": [{"start": {"id": {"arg": "id"}, "units": -1}}]}}} | bad-recipe make
+{"commands": {"make": {"acts": [{"start": {"id": {"arg": "id"}, "units": 2.0}}]}}} | bad-recipe make
+{"commands": {"make": {"acts": [{"start": {"id": {"arg": "id"}, "units": 2, "ready": true}}]}}} | ok
+{"commands": {"make": {"acts": [{"start": {"manual": true, "id": {"arg": "id"}, "units": 2, "ready": false}}]}}} | ok
+{"commands": {"make": {"acts": [{"start": {"id": {"arg": "id"}, "units": 2, "ready": null}}]}}} | bad-recipe make
+{"commands": {"make": {"acts": [{"start": {"id": {"arg": "id"}, "units": 2, "manual": 1}}]}}} | bad-recipe make
+{"commands": {"make": {"acts": [{"start": {"id": {"arg": "id"}, "units": 2, "type": "x"}}]}}} | bad-recipe make
+{"commands": {"make": {"acts": [{"start": {"id": {"arg": "id"}, "units": 2}, "by": 1}]}}} | bad-recipe make
+{"commands": {"make": {"acts": [{"start": []}]}}} | bad-recipe make
+"#;
+
+/// Periods of events.
+const PERIODS: &str = r#"
+{"events": {"NOTE": {"period": 0}}} | ok
+{"events": {"NOTE": {"period": 3600000}}} | ok
+{"events": {"NOTE": {"period": 3600001}}} | bad-period NOTE
+{"events": {"NOTE": {"period": -1}}} | bad-period NOTE
+{"events": {"NOTE": {"period": 1.0}}} | bad-period NOTE
+{"events": {"NOTE": {"period": "1"}}} | bad-period NOTE
+{"events": {"NOTE": {"period": null}}} | bad-period NOTE
+{"events": {"NOTE": []}} | bad-period NOTE
+{"events": {"NOTE": {"Period": 1}}} | bad-period NOTE
+{"events": {"NOTE": {"key": []}}} | ok
+{"events": {"NOTE": {"key": ["port"], "period": 1000}}} | ok
+{"events": {"NOTE": {"key": ["n", "port"], "period": 1000}}} | ok
+{"events": {"NOTE": {"key": ["port", "port"]}}} | ok
+{"events": {"NOTE": {"key": "port"}}} | bad-period NOTE
+{"events": {"NOTE": {"key": ["por"]}}} | bad-period NOTE
+{"events": {"NOTE": {"key": ["port", 1]}}} | bad-period NOTE
+{"events": {"NOTE": {"key": null}}} | bad-period NOTE
+{"events": {"MARK": {"key": ["owner", "mode", "hot", "byte"]}}} | ok
+{"events": {"MARK": {"key": ["rate"]}}} | bad-period MARK
+{"events": {"MARK": {"key": ["list"]}}} | bad-period MARK
+{"events": {"MARK": {"key": ["where"]}}} | bad-period MARK
+{"events": {"MARK": {"key": ["track"]}}} | bad-period MARK
+{"events": {"MARK": {"key": ["part"]}}} | bad-period MARK
+{"events": {"MARK": {"key": ["all"]}}} | bad-period MARK
+{"events": {"BARE": {"period": 1}}} | ok
+{"events": {"BARE": {"key": ["x"]}}} | bad-period BARE
+{"events": {"JOB_STATUS_CHANGE": {"period": 5, "key": ["id", "status"]}}} | ok
+{"events": {"JOB_STATUS_CHANGE": {"key": ["ID"]}}} | bad-period JOB_STATUS_CHANGE
+{"events": {"put": {}}} | unknown-event put
+{"events": {"NONE": {"period": -1}}} | unknown-event NONE
+{"events": {"NOTE": {"period": 7, "key": ["port"]}, "MARK": {"period": 9}, "BARE": {}}} | ok
 "#;
 
 /// What is returned, and waiting.
@@ -148,6 +257,27 @@ fn orders(rt: HostRuntime) -> Result<(), Fail> {
 fn acts(rt: HostRuntime) -> Result<(), Fail> {
     let schema = schema(rt.alloc())?;
     assert_eq!(rt; other(rt.alloc(), &schema, ACTS)?, "");
+    Ok(())
+}
+
+#[test]
+fn raises(rt: HostRuntime) -> Result<(), Fail> {
+    let schema = schema(rt.alloc())?;
+    assert_eq!(rt; other(rt.alloc(), &schema, RAISES)?, "");
+    Ok(())
+}
+
+#[test]
+fn starts(rt: HostRuntime) -> Result<(), Fail> {
+    let schema = schema(rt.alloc())?;
+    assert_eq!(rt; other(rt.alloc(), &schema, STARTS)?, "");
+    Ok(())
+}
+
+#[test]
+fn throttled(rt: HostRuntime) -> Result<(), Fail> {
+    let schema = schema(rt.alloc())?;
+    assert_eq!(rt; other(rt.alloc(), &schema, PERIODS)?, "");
     Ok(())
 }
 

@@ -23,6 +23,13 @@ const MAIN: &[u8] = b"
 { 'event': 'NOTE', 'data': { 'port': 'str', 'n': 'int' } }
 { 'command': 'note', 'data': { 'port': 'str', 'n': 'int' } }
 { 'command': 'free', 'gen': false }
+{ 'struct': 'Named', 'data': { 'owner': 'str', 'mode': 'Mode', '*hot': 'bool', 'byte': 'uint8',
+  '*rate': 'number', 'list': ['str'], 'where': 'Place', 'part': 'Common', 'all': 'any' } }
+{ 'struct': 'Track', 'data': { 'track': 'str' } }
+{ 'union': 'Picked', 'base': 'Named', 'discriminator': 'mode', 'data': { 'fast': 'Track' } }
+{ 'command': 'pick', 'data': 'Picked', 'boxed': true }
+{ 'event': 'MARK', 'data': 'Picked', 'boxed': true }
+{ 'event': 'BARE' }
 ";
 
 fn library(alloc: Global) -> Result<MemoryLibrary, NoMemory> {

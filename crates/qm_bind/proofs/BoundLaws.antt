@@ -1,6 +1,6 @@
 -- What a file is bound to has distinct names, and want of memory is no fault of a file.
 use Rattle.std.proofs.Common.{◌≡◌, ◌≢◌, ℕ, Bool, true, false, not, ◌||◌, ◌&&◌, cond, List, [], ◌∷◌, ◌++◌, map, Option, Some, None, is_some, Result, Ok, Err, IfOk, refl, sym, ap, ◌∙◌, bytes_eq}
-use Rattle.std.specs.Prelude.{IsTrue, option_map}
+use Rattle.std.specs.Prelude.{IsTrue, codes, option_map, unwrap_or}
 use Rattle.std.specs.{List.list_any, Option.option_or}
 use Rattle.std.proofs.lemmas.{Bool.and_from, List.Folds.list_any-append, Slice.Eq.bytes_eq-Decides}
 use Rattle.qm_json.specs.declared.value.{Json.Json, Member.Member}
@@ -8,15 +8,16 @@ use Rattle.qm_json.specs.Cleanness.{IsClean, are_distinct}
 use Rattle.qm_read.specs.{Faults.reading_of, declared.fault.JsonFault.JsonFault}
 use Rattle.qm_read.specs.declared.fault.JsonFault.TheVariants as text_rule
 use Rattle.qm_read.proofs.Results.{read_told, value-clean}
-use Rattle.qapi_types.specs.declared.parts.{CommandDef.CommandDef, Parts.Parts}
+use Rattle.qapi_types.specs.declared.parts.{CommandDef.CommandDef, EventDef.EventDef, Parts.Parts}
 use Rattle.qapi_types.specs.{Choices.again, Choices.stands}
 use Rattle.qm_plan.specs.Stores.{names_of as cell_names}
 use Rattle.qm_bind.specs.declared.binding.Binding.{Binding}
 use Rattle.qm_bind.specs.declared.fault.{BindFault.BindFault, BindRule.BindRule}
 use Rattle.qm_bind.specs.declared.fault.BindRule.TheVariants as rule
 use Rattle.qm_bind.specs.{Bindings.bind_of, Bindings.binding_from, Bindings.bound_as, Bindings.bound_of, Bindings.first_cell, Bindings.no_memory, Bindings.unless}
-use Rattle.qm_bind.specs.{Faults.command_fault, Faults.command_named, Faults.commands_fault, Faults.events_fault, Faults.fault, Faults.file_fault, Faults.later_fault, Faults.member_names, Faults.recipe_fault, Faults.scope_of, Faults.tally_fault}
-use Rattle.qm_bind.specs.{Parts.FileParts, Parts.names_of, Parts.parts_of, Recipes.recipe_of}
+use Rattle.qm_bind.specs.{Faults.command_fault, Faults.command_named, Faults.commands_fault, Periods.event_fault, Periods.event_named, Periods.events_fault, Periods.period_fault, Periods.period_read, Departures.act_fault, Departures.acts_fault, Departures.bad_unless, Departures.departure, Departures.fault, Departures.first_in, Departures.lacking_event, Departures.part_fault, Faults.file_fault, Faults.later_fault, Faults.member_names, Faults.recipe_fault, Faults.scope_of, Faults.tally_fault}
+use Rattle.qm_bind.specs.{Parts.FileParts, Parts.names_of, Parts.parts_of, Grammar.Scope, Grammar.template_of, Recipes.act_of, Recipes.array_of, Recipes.recipe_of, Recipes.waiting_of}
+use Rattle.qm_json.specs.Members.{members_of}
 use Rattle.qm_bind.proofs.CleanParts.{cells-distinct}
 
 -- what comes of a file that has a binding: its value, its parts, and that they have no fault
@@ -128,32 +129,83 @@ tally-rule file f h = by_tally (again (member_names file.cells) (names_of file.t
     by_tally None h = absurd cc
     by_tally (Some name) h = let e : fault rule.Twice name ≡ f = cc in ap (λ (x : BindFault). of_file x.rule) (sym e)
 
-command-rule : (p : Parts) (file : FileParts) (m : Member) (f : BindFault) → command_fault p file m ≡ Some f → of_file f.rule ≡ true
-command-rule p file m f h = by_command (command_named p m.name) h
-  where
-    by_recipe : (b : Bool) → cond b None (Some (fault rule.BadRecipe m.name)) ≡ Some f → of_file f.rule ≡ true
-    by_recipe true h = absurd cc
-    by_recipe false h = let e : fault rule.BadRecipe m.name ≡ f = cc in ap (λ (x : BindFault). of_file x.rule) (sym e)
-
-    by_command : (o : Option CommandDef) → recipe_fault p file m o ≡ Some f → of_file f.rule ≡ true
-    by_command None h = let e : fault rule.UnknownCommand m.name ≡ f = cc in ap (λ (x : BindFault). of_file x.rule) (sym e)
-    by_command (Some c) h = by_recipe (is_some (recipe_of (scope_of p file c) m.value)) h
-
 -- the first of two faults, where both are of the file
 either-rule : (a b : Option BindFault) (f : BindFault) → (a ≡ Some f → of_file f.rule ≡ true) → (b ≡ Some f → of_file f.rule ≡ true) → option_or a b ≡ Some f → of_file f.rule ≡ true
 either-rule None b f g k h = k h
 either-rule (Some x) b f g k h = g h
 
-commands-rule : (p : Parts) (file : FileParts) (members : List Member) (f : BindFault) → commands_fault p file members ≡ Some f → of_file f.rule ≡ true
-commands-rule p file [] f h = absurd cc
-commands-rule p file (m ∷ members) f h = either-rule (command_fault p file m) (commands_fault p file members) f (command-rule p file m f) (commands-rule p file members f) h
+-- the first of what items have, where each is of the file
+first-rule : {A : Type 0} (f : A → Option BindFault) (xs : List A) (b : BindFault) → ((x : A) → f x ≡ Some b → of_file b.rule ≡ true) → first_in f xs ≡ Some b → of_file b.rule ≡ true
+first-rule f [] b each h = absurd cc
+first-rule f (x ∷ xs) b each h = either-rule (f x) (first_in f xs) b (each x) (first-rule f xs b each) h
 
-events-rule : (members : List Member) (f : BindFault) → events_fault members ≡ Some f → of_file f.rule ≡ true
-events-rule [] f h = absurd cc
-events-rule (m ∷ members) f h = let e : fault rule.BadPeriod m.name ≡ f = cc in ap (λ (x : BindFault). of_file x.rule) (sym e)
+unless-rule : (command : List ℕ) (is_good : Bool) (f : BindFault) → bad_unless command is_good ≡ Some f → of_file f.rule ≡ true
+unless-rule command true f h = absurd cc
+unless-rule command false f h = let e : fault rule.BadRecipe command ≡ f = cc in ap (λ (x : BindFault). of_file x.rule) (sym e)
+
+act-rule : (scope : Scope) (command : List ℕ) (v : Json) (f : BindFault) → act_fault scope command v ≡ Some f → of_file f.rule ≡ true
+act-rule scope command v f h = either-rule _ (bad_unless command (is_some (act_of scope v))) f (by_name (lacking_event scope v)) (unless-rule command (is_some (act_of scope v)) f) h
+  where
+    by_name : (o : Option (List ℕ)) → option_map (fault rule.UnknownEvent) o ≡ Some f → of_file f.rule ≡ true
+    by_name None h = absurd cc
+    by_name (Some name) h = let e : fault rule.UnknownEvent name ≡ f = cc in ap (λ (x : BindFault). of_file x.rule) (sym e)
+
+acts-rule : (scope : Scope) (command : List ℕ) (o : Option (List Json)) (f : BindFault) → acts_fault scope command o ≡ Some f → of_file f.rule ≡ true
+acts-rule scope command None f h = unless-rule command false f h
+acts-rule scope command (Some items) f h = first-rule (act_fault scope command) items f (λ v. act-rule scope command v f) h
+
+part-rule : (scope : Scope) (command : List ℕ) (m : Member) (f : BindFault) → part_fault scope command m ≡ Some f → of_file f.rule ≡ true
+part-rule scope command m f h = by_first (bytes_eq m.name (codes "acts")) h
+  where
+    by_third : (b : Bool) → cond b (bad_unless command (is_some (waiting_of (Some m.value)))) (Some (fault rule.BadRecipe command)) ≡ Some f → of_file f.rule ≡ true
+    by_third true h = unless-rule command _ f h
+    by_third false h = unless-rule command false f h
+
+    by_second : (b : Bool) → cond b (bad_unless command (is_some (template_of scope m.value))) (cond (bytes_eq m.name (codes "wait")) (bad_unless command (is_some (waiting_of (Some m.value)))) (Some (fault rule.BadRecipe command))) ≡ Some f → of_file f.rule ≡ true
+    by_second true h = unless-rule command _ f h
+    by_second false h = by_third (bytes_eq m.name (codes "wait")) h
+
+    by_first : (b : Bool) → cond b (acts_fault scope command (array_of m.value)) (cond (bytes_eq m.name (codes "return")) (bad_unless command (is_some (template_of scope m.value))) (cond (bytes_eq m.name (codes "wait")) (bad_unless command (is_some (waiting_of (Some m.value)))) (Some (fault rule.BadRecipe command)))) ≡ Some f → of_file f.rule ≡ true
+    by_first true h = acts-rule scope command (array_of m.value) f h
+    by_first false h = by_second (bytes_eq m.name (codes "return")) h
+
+departure-rule : (scope : Scope) (command : List ℕ) (v : Json) → of_file (departure scope command v).rule ≡ true
+departure-rule scope command v = by_first (first_in (part_fault scope command) (members_of v)) refl
+  where
+    by_first : (o : Option BindFault) → first_in (part_fault scope command) (members_of v) ≡ o → of_file (unwrap_or o (fault rule.BadRecipe command)).rule ≡ true
+    by_first None e = refl
+    by_first (Some f) e = first-rule (part_fault scope command) (members_of v) f (λ m. part-rule scope command m f) e
+
+command-rule : (p : Parts) (file : FileParts) (m : Member) (f : BindFault) → command_fault p file m ≡ Some f → of_file f.rule ≡ true
+command-rule p file m f h = by_command (command_named p m.name) h
+  where
+    by_recipe : (c : CommandDef) (b : Bool) → cond b None (Some (departure (scope_of p file c) m.name m.value)) ≡ Some f → of_file f.rule ≡ true
+    by_recipe c true h = absurd cc
+    by_recipe c false h = let e : departure (scope_of p file c) m.name m.value ≡ f = cc in ap (λ (x : BindFault). of_file x.rule) (sym e) ∙ departure-rule (scope_of p file c) m.name m.value
+
+    by_command : (o : Option CommandDef) → recipe_fault p file m o ≡ Some f → of_file f.rule ≡ true
+    by_command None h = let e : fault rule.UnknownCommand m.name ≡ f = cc in ap (λ (x : BindFault). of_file x.rule) (sym e)
+    by_command (Some c) h = by_recipe c (is_some (recipe_of (scope_of p file c) m.value)) h
+
+commands-rule : (p : Parts) (file : FileParts) (members : List Member) (f : BindFault) → commands_fault p file members ≡ Some f → of_file f.rule ≡ true
+commands-rule p file members f h = first-rule (command_fault p file) members f (λ m. command-rule p file m f) h
+
+event-rule : (p : Parts) (m : Member) (f : BindFault) → event_fault p m ≡ Some f → of_file f.rule ≡ true
+event-rule p m f h = by_event (event_named p m.name) h
+  where
+    by_period : (b : Bool) → cond b None (Some (fault rule.BadPeriod m.name)) ≡ Some f → of_file f.rule ≡ true
+    by_period true h = absurd cc
+    by_period false h = let e : fault rule.BadPeriod m.name ≡ f = cc in ap (λ (x : BindFault). of_file x.rule) (sym e)
+
+    by_event : (o : Option EventDef) → period_fault p m o ≡ Some f → of_file f.rule ≡ true
+    by_event None h = let e : fault rule.UnknownEvent m.name ≡ f = cc in ap (λ (x : BindFault). of_file x.rule) (sym e)
+    by_event (Some event) h = by_period (is_some (period_read p event m.value)) h
+
+events-rule : (p : Parts) (members : List Member) (f : BindFault) → events_fault p members ≡ Some f → of_file f.rule ≡ true
+events-rule p members f h = first-rule (event_fault p) members f (λ m. event-rule p m f) h
 
 file-rule : (p : Parts) (file : FileParts) (f : BindFault) → file_fault p file ≡ Some f → of_file f.rule ≡ true
-file-rule p file f h = either-rule (tally_fault file) (later_fault p file) f (tally-rule file f) (either-rule (commands_fault p file file.commands) (events_fault file.events) f (commands-rule p file file.commands f) (events-rule file.events f)) h
+file-rule p file f h = either-rule (tally_fault file) (later_fault p file) f (tally-rule file f) (either-rule (commands_fault p file file.commands) (events_fault p file.events) f (commands-rule p file file.commands f) (events-rule p file.events f)) h
 
 -- the rule says that memory is wanting, of the file or of its text
 abbrev of_memory : BindRule → Bool

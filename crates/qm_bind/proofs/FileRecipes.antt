@@ -1,24 +1,25 @@
 -- Recipes that a file gives are such as a file can say, and clean.
-use Rattle.std.proofs.Common.{◌≡◌, ℕ, Bool, true, false, ◌&&◌, cond, List, [], ◌∷◌, map, length, Option, Some, None, option_map, refl, ap, sym, ◌∙◌, nat_lt}
+use Rattle.std.proofs.Common.{◌≡◌, ℕ, Bool, true, false, ◌&&◌, cond, List, [], ◌∷◌, map, length, Option, Some, None, is_some, option_map, refl, ap, sym, ◌∙◌, subst, nat_lt, bytes_eq}
 use Rattle.std.specs.Prelude.{◌==◌, ◌^◌, ℤ, pos, negsuc, codes, option_and_then}
-use Rattle.std.specs.{List.list_all, Option.option_or, Str.is_utf8}
-use Rattle.std.proofs.lemmas.{Bool.and_from, Bool.and_parts}
+use Rattle.std.specs.{List.list_all, Option.option_map_or, Option.option_or, Str.is_utf8}
+use Rattle.std.proofs.lemmas.{Bool.and_from, Bool.and_parts, Bool.lt-ltb, List.Quantifiers.position-Some}
 use Rattle.qm_json.specs.declared.value.{Json.Json, Json.roll-Json, Json.out-Json, Member.Member, Json.TheOpen.Json-F}
 use Rattle.qm_json.specs.declared.value.Json.TheVariants as json
 use Rattle.qm_json.specs.declared.value.Json.TheOpen as layer
-use Rattle.qm_json.specs.declared.value.Json.TheViews.{roll-out-Json}
+use Rattle.qm_json.specs.declared.value.Json.TheViews.{outs-Str, roll-out-Json}
 use Rattle.qm_json.specs.declared.value.Json.TheVariants.{rolls-Arr, rolls-Str}
 use Rattle.qm_json.specs.{Cleanness.is_clean, Members.member_of, Members.members_of}
 use Rattle.qm_json.proofs.CleanLaws.{is_clean-Arr, is_clean-Obj, is_clean-Str}
 use Rattle.qm_plan.specs.{Cleanness.IsCleanRecipe, Cleanness.is_clean_act, Cleanness.is_clean_template}
-use Rattle.qm_plan.specs.declared.templates.Template.{Template}
+use Rattle.qapi_types.specs.Lookups.{place_of}
+use Rattle.qm_plan.specs.declared.templates.Template.{Template, TheVariants.Arg, TheVariants.Const, TheViews.outs-Arg, TheViews.outs-Const}
 use Rattle.qm_plan.specs.declared.recipes.{Act.Act, Recipe.Recipe, Waiting.Waiting}
 use Rattle.qm_plan.specs.declared.recipes.Act.TheVariants as act
 use Rattle.qm_plan.proofs.Inductions.{is_clean-Const}
-use Rattle.qm_bind.specs.{Goodness.IsFileRecipe, Goodness.is_file_act, Goodness.is_file_template, Grammar.Scope, Grammar.each_of, Grammar.known_name, Grammar.layer_text, Grammar.template_of, Grammar.text_of, Grammar.where_known, Grammar.with_each}
-use Rattle.qm_bind.specs.Recipes.{Pair, act_of, acts_given, acts_of, add_act, add_of, amount_in, amount_of, array_of, both_in, empty_object, fail_act, is_recipe_object, layer_amount, may_wait_for, only_two_in, pair_of, plain_recipe, recipe_from, recipe_in, recipe_of, returned_of, set_act, set_of, waiting_of}
+use Rattle.qm_bind.specs.{Goodness.IsFileRecipe, Goodness.is_file_act, Goodness.is_file_id, Goodness.is_file_payload, Goodness.is_file_template, Goodness.layer_id, Grammar.Scope, Grammar.each_of, Grammar.known_name, Grammar.layer_text, Grammar.template_of, Grammar.text_of, Grammar.where_known, Grammar.with_each}
+use Rattle.qm_bind.specs.Recipes.{Pair, act_of, acts_given, acts_of, add_act, add_of, amount_in, amount_of, argument_id, array_of, both_in, const_id, empty_object, event_of, fail_act, flag_of, has_parts, id_of, is_recipe_object, layer_amount, layer_units, may_wait_for, may_work, only_in, only_two_in, pair_of, payload_of, plain_recipe, raise_act, raise_in, raise_of, raise_parts, recipe_from, recipe_in, recipe_of, returned_of, set_act, set_of, start_act, start_given, start_in, start_of, start_parts, store_act, units_in, units_of, waiting_of}
 use Rattle.qm_bind.proofs.CleanParts.{array-is, member-clean}
-use Rattle.qm_bind.proofs.FileTemplates.{IsSaid, file-Const, template-said}
+use Rattle.qm_bind.proofs.FileTemplates.{IsSaid, clean-Arg, file-Const, template-said}
 
 pub text-is : (v : Json) (text : List ℕ) → text_of v ≡ Some text → v ≡ json.Str text
 text-is v text h = by_layer (out-Json v) refl h
@@ -37,11 +38,11 @@ pub text-utf8 : (v : Json) (text : List ℕ) → is_clean v ≡ true → text_of
 text-utf8 v text h e = sym (is_clean-Str text) ∙ ap is_clean (sym (text-is v text e)) ∙ h
 
 -- a name that is known, of a string
-record IsKnown (is_known : List ℕ → Bool) (v : Json) (name : List ℕ) : Type 0 where
+pub record IsKnown (is_known : List ℕ → Bool) (v : Json) (name : List ℕ) : Type 0 where
   pub text : text_of v ≡ Some name
   pub known : is_known name ≡ true
 
-is-known : (is_known : List ℕ → Bool) (v : Json) (name : List ℕ) → known_name is_known v ≡ Some name → IsKnown is_known v name
+pub is-known : (is_known : List ℕ → Bool) (v : Json) (name : List ℕ) → known_name is_known v ≡ Some name → IsKnown is_known v name
 is-known is_known v name h = by_text (text_of v) refl h
   where
     by_known : (t : List ℕ) → text_of v ≡ Some t → (b : Bool) → is_known t ≡ b → cond b (Some t) None ≡ Some name → IsKnown is_known v name
@@ -151,8 +152,142 @@ either-said : (scope : Scope) (x y : Option Act) (a : Act) → (x ≡ Some a →
 either-said scope None y a f g h = g h
 either-said scope (Some b) y a f g h = f h
 
+-- the number of an event
+place-below : (names : List (List ℕ)) (name : List ℕ) (n : ℕ) → place_of names name ≡ Some n → nat_lt n (length names) ≡ true
+place-below names name n h = lt-ltb n (length names) (position-Some (bytes_eq name) names n [] h).0
+
+event-below : (scope : Scope) (o : Option Json) (n : ℕ) → option_and_then (event_of scope) o ≡ Some n → nat_lt n (length scope.events) ≡ true
+event-below scope None n h = absurd cc
+event-below scope (Some v) n h = by_text (text_of v) h
+  where
+    by_text : (o : Option (List ℕ)) → option_and_then (place_of scope.events) o ≡ Some n → nat_lt n (length scope.events) ≡ true
+    by_text None h = absurd cc
+    by_text (Some name) h = place-below scope.events name n h
+
+-- a file can say what the data of an event is made of, and a text can spell it
+record IsSaidPayload (scope : Scope) (payload : Option Template) : Type 0 where
+  pub file : is_file_payload scope payload ≡ true
+  pub clean : option_map_or is_clean_template payload true ≡ true
+
+payload-said : (scope : Scope) (o : Option Json) (payload : Option Template) → ((u : Json) → o ≡ Some u → is_clean u ≡ true) → payload_of scope o ≡ Some payload → IsSaidPayload scope payload
+payload-said scope None payload clean e = let s : None ≡ payload = cc in record { file = ap (is_file_payload scope) (sym s); clean = ap (λ (o : Option Template). option_map_or is_clean_template o true) (sym s) }
+payload-said scope (Some u) payload clean e = by_template (template_of scope u) refl e
+  where
+    by_template : (o : Option Template) → template_of scope u ≡ o → option_map Some o ≡ Some payload → IsSaidPayload scope payload
+    by_template None q e = absurd cc
+    by_template (Some t) q e =
+        let s : Some t ≡ payload = cc in
+        let said = template-said scope u t (clean u refl) q in
+        record { file = ap (is_file_payload scope) (sym s) ∙ said.file; clean = ap (λ (o : Option Template). option_map_or is_clean_template o true) (sym s) ∙ said.clean }
+
+raised-said : (scope : Scope) (a : Act) (n : Option ℕ) (p : Option (Option Template)) → ((k : ℕ) → n ≡ Some k → nat_lt k (length scope.events) ≡ true) → ((q : Option Template) → p ≡ Some q → IsSaidPayload scope q) → raise_of n p ≡ Some a → IsSaidAct scope a
+raised-said scope a None p f g e = absurd cc
+raised-said scope a (Some k) None f g e = absurd cc
+raised-said scope a (Some k) (Some q) f g e = let s : act.Raise k q ≡ a = cc in record { file = ap (is_file_act scope) (sym s) ∙ and_from _ _ (f k refl) (g q refl).file; clean = ap is_clean_act (sym s) ∙ (g q refl).clean }
+
+raise-said : (scope : Scope) (v : Json) (a : Act) → is_clean v ≡ true → raise_act scope v ≡ Some a → IsSaidAct scope a
+raise-said scope v a h e = by_parts (has_parts raise_parts v) e
+  where
+    by_parts : (b : Bool) → cond b (raise_in scope v) None ≡ Some a → IsSaidAct scope a
+    by_parts false e = absurd cc
+    by_parts true e =
+        raised-said scope a (option_and_then (event_of scope) (member_of v (codes "raise"))) (payload_of scope (member_of v (codes "data"))) (event-below scope (member_of v (codes "raise")))
+        (λ payload q. payload-said scope (member_of v (codes "data")) payload (λ u p. member-clean v (codes "data") u h p) q) e
+
+-- the only value of a clean object
+only-inside : (v : Json) (name : List ℕ) (u : Json) → is_clean v ≡ true → only_in v name ≡ Some u → is_clean u ≡ true
+only-inside v name u h e = by_count (length (members_of v) == 1) e
+  where
+    by_count : (b : Bool) → cond b (member_of v name) None ≡ Some u → is_clean u ≡ true
+    by_count true e = member-clean v name u h e
+    by_count false e = absurd cc
+
+-- a file can say what the id of a job is made of, and a text can spell it
+record IsSaidId (scope : Scope) (id : Template) : Type 0 where
+  pub file : is_file_id scope id ≡ true
+  pub clean : is_clean_template id ≡ true
+
+text-id : (scope : Scope) (text : List ℕ) → is_utf8 text ≡ true → IsSaidId scope (Const (json.Str text))
+text-id scope text h = record { file = ap (layer_id scope) (outs-Const (json.Str text)) ∙ ap (λ (y : Json-F Json Member). is_some (layer_text y)) (outs-Str text); clean = is_clean-Const (json.Str text) ∙ is_clean-Str text ∙ h }
+
+const-said : (scope : Scope) (v : Json) (id : Template) → is_clean v ≡ true → const_id v ≡ Some id → IsSaidId scope id
+const-said scope v id h e = by_only (only_in v (codes "const")) refl e
+  where
+    by_text : (u : Json) → is_clean u ≡ true → (o : Option (List ℕ)) → text_of u ≡ o → option_map (λ text. Const (json.Str text)) o ≡ Some id → IsSaidId scope id
+    by_text u c None q e = absurd cc
+    by_text u c (Some text) q e = let s : Const (json.Str text) ≡ id = cc in subst (IsSaidId scope) s (text-id scope text (text-utf8 u text c q))
+
+    by_only : (o : Option Json) → only_in v (codes "const") ≡ o → option_map (λ text. Const (json.Str text)) (option_and_then text_of o) ≡ Some id → IsSaidId scope id
+    by_only None q e = absurd cc
+    by_only (Some u) q e = by_text u (only-inside v (codes "const") u h q) (text_of u) refl e
+
+argument-said : (scope : Scope) (v : Json) (id : Template) → argument_id scope v ≡ Some id → IsSaidId scope id
+argument-said scope v id e = by_only (only_in v (codes "arg")) e
+  where
+    by_name : (u : Json) (o : Option (List ℕ)) → known_name scope.is_id u ≡ o → option_map Arg o ≡ Some id → IsSaidId scope id
+    by_name u None q e = absurd cc
+    by_name u (Some name) q e = let s : Arg name ≡ id = cc in subst (IsSaidId scope) s (record { file = ap (layer_id scope) (outs-Arg name) ∙ (is-known scope.is_id u name q).known; clean = clean-Arg name })
+
+    by_only : (o : Option Json) → option_map Arg (option_and_then (known_name scope.is_id) o) ≡ Some id → IsSaidId scope id
+    by_only None e = absurd cc
+    by_only (Some u) e = by_name u (known_name scope.is_id u) refl e
+
+id-said : (scope : Scope) (o : Option Json) (id : Template) → ((u : Json) → o ≡ Some u → is_clean u ≡ true) → option_and_then (id_of scope) o ≡ Some id → IsSaidId scope id
+id-said scope None id clean e = absurd cc
+id-said scope (Some v) id clean e = by_const (const_id v) refl e
+  where
+    by_const : (o : Option Template) → const_id v ≡ o → option_or o (argument_id scope v) ≡ Some id → IsSaidId scope id
+    by_const None q e = argument-said scope v id e
+    by_const (Some t) q e = const-said scope v id (clean v refl) (q ∙ e)
+
+units-inside : (n : ℤ) (units : ℕ) → units_in n ≡ Some units → may_work units ≡ true
+units-inside (pos n) units h = by_test (may_work n) refl h
+  where
+    by_test : (b : Bool) → may_work n ≡ b → cond b (Some n) None ≡ Some units → may_work units ≡ true
+    by_test false e h = absurd cc
+    by_test true e h = let s : n ≡ units = cc in ap may_work (sym s) ∙ e
+units-inside (negsuc n) units h = absurd cc
+
+units-said : (o : Option Json) (units : ℕ) → option_and_then units_of o ≡ Some units → may_work units ≡ true
+units-said None units h = absurd cc
+units-said (Some v) units h = by_layer (out-Json v) h
+  where
+    by_layer : (y : Json-F Json Member) → layer_units y ≡ Some units → may_work units ≡ true
+    by_layer layer.Json-F.Null h = absurd cc
+    by_layer (layer.Json-F.Bool b) h = absurd cc
+    by_layer (layer.Json-F.Int n) h = units-inside n units h
+    by_layer (layer.Json-F.Num t) h = absurd cc
+    by_layer (layer.Json-F.Str bytes) h = absurd cc
+    by_layer (layer.Json-F.Arr items) h = absurd cc
+    by_layer (layer.Json-F.Obj members) h = absurd cc
+
+started-said : (scope : Scope) (a : Act) (i : Option Template) (u : Option ℕ) (r m : Option Bool) → ((id : Template) → i ≡ Some id → IsSaidId scope id) → ((units : ℕ) → u ≡ Some units → may_work units ≡ true) → start_of i u r m ≡ Some a → IsSaidAct scope a
+started-said scope a None u r m f g e = absurd cc
+started-said scope a (Some id) None r m f g e = absurd cc
+started-said scope a (Some id) (Some units) None m f g e = absurd cc
+started-said scope a (Some id) (Some units) (Some ready) None f g e = absurd cc
+started-said scope a (Some id) (Some units) (Some ready) (Some manual) f g e =
+    let s : act.Start id units ready manual ≡ a = cc in
+    record { file = ap (is_file_act scope) (sym s) ∙ and_from _ _ (f id refl).file (g units refl); clean = ap is_clean_act (sym s) ∙ (f id refl).clean }
+
+start-said : (scope : Scope) (v : Json) (a : Act) → is_clean v ≡ true → start_act scope v ≡ Some a → IsSaidAct scope a
+start-said scope v a h e = by_only (only_in v (codes "start")) refl e
+  where
+    by_parts : (u : Json) → is_clean u ≡ true → (b : Bool) → cond b (start_in scope u) None ≡ Some a → IsSaidAct scope a
+    by_parts u c false e = absurd cc
+    by_parts u c true e =
+        started-said scope a (option_and_then (id_of scope) (member_of u (codes "id"))) (option_and_then units_of (member_of u (codes "units"))) (flag_of (member_of u (codes "ready"))) (flag_of (member_of u (codes "manual")))
+        (λ id q. id-said scope (member_of u (codes "id")) id (λ w p. member-clean u (codes "id") w c p) q) (units-said (member_of u (codes "units"))) e
+
+    by_only : (o : Option Json) → only_in v (codes "start") ≡ o → option_and_then (start_given scope) o ≡ Some a → IsSaidAct scope a
+    by_only None q e = absurd cc
+    by_only (Some u) q e = by_parts u (only-inside v (codes "start") u h q) (has_parts start_parts u) e
+
+store-said : (scope : Scope) (v : Json) (a : Act) → is_clean v ≡ true → store_act scope v ≡ Some a → IsSaidAct scope a
+store-said scope v a h = either-said scope (set_act scope v) (option_or (add_act scope v) (fail_act v)) a (set-said scope v a h) (either-said scope (add_act scope v) (fail_act v) a (add-said scope v a h) (fail-said scope v a h))
+
 act-said : (scope : Scope) (v : Json) (a : Act) → is_clean v ≡ true → act_of scope v ≡ Some a → IsSaidAct scope a
-act-said scope v a h = either-said scope (set_act scope v) (option_or (add_act scope v) (fail_act v)) a (set-said scope v a h) (either-said scope (add_act scope v) (fail_act v) a (add-said scope v a h) (fail-said scope v a h))
+act-said scope v a h = either-said scope (store_act scope v) (option_or (raise_act scope v) (start_act scope v)) a (store-said scope v a h) (either-said scope (raise_act scope v) (start_act scope v) a (raise-said scope v a h) (start-said scope v a h))
 
 record AreSaidActs (scope : Scope) (acts : List Act) : Type 0 where
   pub file : list_all (is_file_act scope) acts ≡ true

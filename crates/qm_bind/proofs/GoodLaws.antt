@@ -20,11 +20,12 @@ use Rattle.qm_plan.proofs.Inductions.{is_clean-Const}
 use Rattle.qm_bind.specs.declared.binding.Binding.{Binding}
 use Rattle.qm_bind.specs.declared.fault.BindFault.{BindFault}
 use Rattle.qm_bind.specs.{Bindings.bind_of, Bindings.bound_of, Bindings.first_cell, Bindings.given_recipe, Bindings.no_memory, Bindings.recipe_for, Faults.member_names, Faults.scope_of, Grammar.Scope, Grammar.text_of, Parts.FileParts, Parts.names_of}
-use Rattle.qm_bind.specs.Goodness.{IsGoodBinding, IsRecipeFor, IsStandingOr, is_clean_cell, scope_for}
+use Rattle.qm_bind.specs.Goodness.{IsGoodBinding, IsPeriodFor, IsRecipeFor, IsStandingOr, is_clean_cell, scope_for}
 use Rattle.qm_bind.specs.{Recipes.empty_object, Recipes.plain_recipe, Recipes.recipe_of, Standing.acting, Standing.act_named, Standing.answer_named, Standing.answering, Standing.standing_recipe, Standing.verb_named}
 use Rattle.qm_bind.proofs.BoundLaws.{bound-from, bound_cells, bound_tallies, names-are, no-tally-fault, one-true}
 use Rattle.qm_bind.proofs.CleanParts.{cells-clean, commands-clean, found-clean, tallies-clean}
 use Rattle.qm_bind.proofs.FileTemplates.{clean-Arg}
+use Rattle.qm_bind.proofs.PeriodLaws.{each-period}
 use Rattle.qm_bind.proofs.FileRecipes.{IsSaidRecipe, plain-said, recipe-said, text-utf8}
 
 clean-Version : is_clean_template template.Version ≡ true
@@ -93,6 +94,8 @@ scopes-are p file c = λ j. record {
   is_cell = is_named (sym (names-are file.cells) j);
   is_tally = is_named (names_of file.tallies);
   is_argument = (scope_of p file c).is_argument;
+  is_id = (scope_of p file c).is_id;
+  events = (scope_of p file c).events;
 }
 
 recipe-good : (p : Parts) (file : FileParts) (members : List Member) (c : CommandDef) → list_all is_clean_member members ≡ true → IsCleanFor p (bound_of p file) c (recipe_for p file members c)
@@ -166,7 +169,7 @@ bound_good p text binding h =
     let clean : All IsCleanRecipe (bound_of p b.file).recipes = each-clean p b.file b.file.commands p.commands given in
     record {
       recipes = subst (λ (x : Binding). AllZip (IsRecipeFor p x) p.commands x.recipes) b.bound own;
-      periods = ap (λ (x : Binding). x.periods) (sym b.bound);
+      periods = subst (λ (x : Binding). AllZip (IsPeriodFor p) p.events x.periods) b.bound (each-period p b.file.events p.events);
       clean_recipes = subst (λ (x : Binding). All IsCleanRecipe x.recipes) b.bound clean;
       clean_cells = ap (λ (x : Binding). list_all is_clean_cell x.cells) (sym b.bound) ∙ clean-first b.file.cells (cells-clean b.value b.file b.clean b.parts);
       clean_tallies = ap (λ (x : Binding). list_all is_utf8 x.tallies) (sym b.bound) ∙ utf8-texts b.file.tallies (tallies-clean b.value b.file b.clean b.parts);

@@ -4,6 +4,7 @@ pub mod CleanParts
 pub mod Eaches
 pub mod FileRecipes
 pub mod FileTemplates
+pub mod FirstLaws
 pub mod GoodLaws
 pub mod Layers
 pub mod MemberLaws
@@ -11,6 +12,7 @@ pub mod NameLaws
 pub mod NamedLaws
 pub mod OutcomeLaws
 pub mod PairLaws
+pub mod PeriodLaws
 pub mod PlaceLaws
 pub mod RecipeLaws
 pub mod StandingLaws

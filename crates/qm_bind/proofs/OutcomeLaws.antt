@@ -7,16 +7,16 @@ use Rattle.qm_json.specs.declared.value.Json.{Json}
 use Rattle.qm_read.specs.{Faults.reading_of, declared.fault.JsonFault.JsonFault}
 use Rattle.qm_bind.specs.declared.binding.Binding.{Binding}
 use Rattle.qm_bind.specs.declared.fault.{BindFault.BindFault, BindRule.TheVariants.BadRecipe, BindRule.TheVariants.NotJson, BindRule.TheVariants.Twice}
-use Rattle.qm_bind.specs.{Bindings.bind_of, Bindings.binding_from, Bindings.binding_of, Bindings.bound_as, Bindings.bound_of, Bindings.unless, Faults.commands_fault, Faults.events_fault, Faults.fault, Faults.file_fault, Faults.later_fault, Faults.member_names, Parts.FileParts, Parts.names_of, Parts.parts_of}
+use Rattle.qm_bind.specs.{Bindings.bind_of, Bindings.binding_from, Bindings.binding_of, Bindings.bound_as, Bindings.bound_of, Bindings.unless, Faults.commands_fault, Periods.events_fault, Departures.fault, Faults.file_fault, Faults.later_fault, Faults.member_names, Parts.FileParts, Parts.names_of, Parts.parts_of}
 
 pub bad-commands : (p : Parts) (file : FileParts) (b : BindFault) → Some b ≡ commands_fault p file file.commands → Err b ≡ unless (later_fault p file) (bound_of p file)
-bad-commands p file b h = ap (λ (o : Option BindFault). unless (option_or o (events_fault file.events)) (bound_of p file)) h
+bad-commands p file b h = ap (λ (o : Option BindFault). unless (option_or o (events_fault p file.events)) (bound_of p file)) h
 
-pub bad-events : (p : Parts) (file : FileParts) (b : BindFault) → None ≡ commands_fault p file file.commands → Some b ≡ events_fault file.events → Err b ≡ unless (later_fault p file) (bound_of p file)
-bad-events p file b h e = ap (λ (o : Option BindFault). unless (option_or None o) (bound_of p file)) e ∙ ap (λ (o : Option BindFault). unless (option_or o (events_fault file.events)) (bound_of p file)) h
+pub bad-events : (p : Parts) (file : FileParts) (b : BindFault) → None ≡ commands_fault p file file.commands → Some b ≡ events_fault p file.events → Err b ≡ unless (later_fault p file) (bound_of p file)
+bad-events p file b h e = ap (λ (o : Option BindFault). unless (option_or None o) (bound_of p file)) e ∙ ap (λ (o : Option BindFault). unless (option_or o (events_fault p file.events)) (bound_of p file)) h
 
-pub no-fault : (p : Parts) (file : FileParts) (b : Binding) → None ≡ commands_fault p file file.commands → None ≡ events_fault file.events → b ≡ bound_of p file → Ok b ≡ unless (later_fault p file) (bound_of p file)
-no-fault p file b h e q = ap (λ (x : Binding). Ok x) q ∙ ap (λ (o : Option BindFault). unless (option_or None o) (bound_of p file)) e ∙ ap (λ (o : Option BindFault). unless (option_or o (events_fault file.events)) (bound_of p file)) h
+pub no-fault : (p : Parts) (file : FileParts) (b : Binding) → None ≡ commands_fault p file file.commands → None ≡ events_fault p file.events → b ≡ bound_of p file → Ok b ≡ unless (later_fault p file) (bound_of p file)
+no-fault p file b h e q = ap (λ (x : Binding). Ok x) q ∙ ap (λ (o : Option BindFault). unless (option_or None o) (bound_of p file)) e ∙ ap (λ (o : Option BindFault). unless (option_or o (events_fault p file.events)) (bound_of p file)) h
 
 pub bad-tally : (p : Parts) (file : FileParts) (name : List ℕ) → Some name ≡ again (member_names file.cells) (names_of file.tallies) → Err (fault Twice name) ≡ unless (file_fault p file) (bound_of p file)
 bad-tally p file name h = ap (λ (o : Option (List ℕ)). unless (option_or (option_map (fault Twice) o) (later_fault p file)) (bound_of p file)) h

@@ -8,8 +8,8 @@ use Rattle.qm_json.proofs.Distinct.{new-name}
 use Rattle.qapi_types.specs.declared.parts.{CommandDef.CommandDef, Parts.Parts}
 use Rattle.qapi_types.specs.{Choices.AreApart, Choices.times, Lookups.command_names, Lookups.place_of}
 use Rattle.qm_plan.specs.declared.recipes.Recipe.{Recipe}
-use Rattle.qm_bind.specs.declared.fault.{BindFault.BindFault, BindRule.TheVariants.BadRecipe, BindRule.TheVariants.UnknownCommand}
-use Rattle.qm_bind.specs.{Bindings.recipe_for, Bindings.recipes_for, Faults.command_fault, Faults.commands_fault, Faults.fault, Faults.member_names, Faults.own_command, Faults.recipe_fault, Faults.scope_of, Parts.FileParts}
+use Rattle.qm_bind.specs.declared.fault.{BindFault.BindFault, BindRule.TheVariants.UnknownCommand}
+use Rattle.qm_bind.specs.{Bindings.recipe_for, Bindings.recipes_for, Faults.command_fault, Faults.commands_fault, Departures.departure, Departures.fault, Faults.member_names, Faults.own_command, Faults.recipe_fault, Faults.scope_of, Grammar.Scope, Parts.FileParts}
 use Rattle.qm_bind.specs.{Recipes.plain_recipe, Recipes.recipe_of, Standing.standing_recipe, Walks.put_at, Walks.with_recipe}
 use Rattle.qm_bind.proofs.NameLaws.{from}
 
@@ -81,7 +81,7 @@ record IsRecipe (p : Parts) (file : FileParts) (m : Member) : Type 0 where
 no-fault : (p : Parts) (file : FileParts) (m : Member) → command_fault p file m ≡ None → IsRecipe p file m
 no-fault p file m h = by_standing (is_some (standing_recipe m.name)) refl h
   where
-    by_recipe : (n : ℕ) (c : CommandDef) → is_some (standing_recipe m.name) ≡ false → place_of (command_names p) m.name ≡ Some n → slice_get p.commands n ≡ Some c → (o : Option Recipe) → recipe_of (scope_of p file c) m.value ≡ o → cond (is_some o) None (Some (fault BadRecipe m.name)) ≡ None → IsRecipe p file m
+    by_recipe : (n : ℕ) (c : CommandDef) → is_some (standing_recipe m.name) ≡ false → place_of (command_names p) m.name ≡ Some n → slice_get p.commands n ≡ Some c → (o : Option Recipe) → recipe_of (scope_of p file c) m.value ≡ o → cond (is_some o) None (Some (departure (scope_of p file c) m.name m.value)) ≡ None → IsRecipe p file m
     by_recipe n c s e f None r h = absurd cc
     by_recipe n c s e f (Some recipe) r h = record { number = n; command = c; recipe = recipe; standing = s; place = e; found = f; reads = r }
 
@@ -190,24 +190,35 @@ get-some (x ∷ xs) (suc n) l h = get-some xs n (omega (arith, l)) h
 pub unknown : (p : Parts) (file : FileParts) (m : Member) → None ≡ own_command p m.name → Some (fault UnknownCommand m.name) ≡ command_fault p file m
 unknown p file m h = ap (λ (o : Option ℕ). recipe_fault p file m (option_and_then (slice_get p.commands) o)) h
 
--- the recipe that a member has for the command of the number
-abbrev read_at : Parts → FileParts → Member → ℕ → Option Recipe
-read_at p file m n = option_and_then (λ (c : CommandDef). recipe_of (scope_of p file c) m.value) (slice_get p.commands n)
+-- what the recipe of the command of the number may name
+abbrev named_at : Parts → FileParts → ℕ → Option Scope
+named_at p file n = option_map (scope_of p file) (slice_get p.commands n)
 
-pub bad : (p : Parts) (file : FileParts) (m : Member) (n : ℕ) → Some n ≡ own_command p m.name → n < length p.commands → None ≡ read_at p file m n → Some (fault BadRecipe m.name) ≡ command_fault p file m
-bad p file m n own l h = by_command (slice_get p.commands n) refl h ∙ ap (λ (o : Option ℕ). recipe_fault p file m (option_and_then (slice_get p.commands) o)) own
+pub bad : (p : Parts) (file : FileParts) (m : Member) (n : ℕ) (s : Scope) (f : BindFault) → Some n ≡ own_command p m.name → Some s ≡ named_at p file n → None ≡ recipe_of s m.value → f ≡ departure s m.name m.value → Some f ≡ command_fault p file m
+bad p file m n s f own at h d = by_command (slice_get p.commands n) at ∙ ap (λ (o : Option ℕ). recipe_fault p file m (option_and_then (slice_get p.commands) o)) own
   where
-    by_command : (o : Option CommandDef) → slice_get p.commands n ≡ o → None ≡ option_and_then (λ (c : CommandDef). recipe_of (scope_of p file c) m.value) o → Some (fault BadRecipe m.name) ≡ recipe_fault p file m o
-    by_command None e h = absurd (get-some p.commands n l e)
-    by_command (Some c) e h = ap (λ (o : Option Recipe). cond (is_some o) None (Some (fault BadRecipe m.name))) h
+    by_command : (o : Option CommandDef) → Some s ≡ option_map (scope_of p file) o → Some f ≡ recipe_fault p file m o
+    by_command None e = absurd cc
+    by_command (Some c) e =
+        let q : s ≡ scope_of p file c = cc in
+        ap (λ (x : BindFault). Some x) d ∙ ap (λ (o : Option Recipe). cond (is_some o) None (Some (departure s m.name m.value))) h
+        ∙ ap (λ (t : Scope). cond (is_some (recipe_of t m.value)) None (Some (departure t m.name m.value))) q
 
-pub good : (p : Parts) (file : FileParts) (m : Member) (n : ℕ) (r : Recipe) → Some n ≡ own_command p m.name → Some r ≡ read_at p file m n → None ≡ command_fault p file m
-good p file m n r own h = by_command (slice_get p.commands n) h ∙ ap (λ (o : Option ℕ). recipe_fault p file m (option_and_then (slice_get p.commands) o)) own
+pub good : (p : Parts) (file : FileParts) (m : Member) (n : ℕ) (s : Scope) (r : Recipe) → Some n ≡ own_command p m.name → Some s ≡ named_at p file n → Some r ≡ recipe_of s m.value → None ≡ command_fault p file m
+good p file m n s r own at h = by_command (slice_get p.commands n) at ∙ ap (λ (o : Option ℕ). recipe_fault p file m (option_and_then (slice_get p.commands) o)) own
   where
-    by_command : (o : Option CommandDef) → Some r ≡ option_and_then (λ (c : CommandDef). recipe_of (scope_of p file c) m.value) o → None ≡ recipe_fault p file m o
-    by_command None h = absurd cc
-    by_command (Some c) h = ap (λ (o : Option Recipe). cond (is_some o) None (Some (fault BadRecipe m.name))) h
+    by_command : (o : Option CommandDef) → Some s ≡ option_map (scope_of p file) o → None ≡ recipe_fault p file m o
+    by_command None e = absurd cc
+    by_command (Some c) e =
+        let q : s ≡ scope_of p file c = cc in
+        ap (λ (o : Option Recipe). cond (is_some o) None (Some (departure s m.name m.value))) h
+        ∙ ap (λ (t : Scope). cond (is_some (recipe_of t m.value)) None (Some (departure t m.name m.value))) q
 
-pub put-is : (p : Parts) (file : FileParts) (m : Member) (n : ℕ) (r : Recipe) (recipes : List Recipe) → Some n ≡ own_command p m.name → Some r ≡ read_at p file m n → set recipes n r ≡ with_recipe p file m recipes
-put-is p file m n r recipes own h =
-    ap (put_at recipes (Some n)) h ∙ ap (λ (o : Option ℕ). put_at recipes o (option_and_then (λ (c : CommandDef). recipe_of (scope_of p file c) m.value) (option_and_then (slice_get p.commands) o))) own
+pub put-is : (p : Parts) (file : FileParts) (m : Member) (n : ℕ) (s : Scope) (r : Recipe) (recipes : List Recipe) → Some n ≡ own_command p m.name → Some s ≡ named_at p file n → Some r ≡ recipe_of s m.value → set recipes n r ≡ with_recipe p file m recipes
+put-is p file m n s r recipes own at h =
+    ap (put_at recipes (Some n)) (by_command (slice_get p.commands n) at)
+    ∙ ap (λ (o : Option ℕ). put_at recipes o (option_and_then (λ (c : CommandDef). recipe_of (scope_of p file c) m.value) (option_and_then (slice_get p.commands) o))) own
+  where
+    by_command : (o : Option CommandDef) → Some s ≡ option_map (scope_of p file) o → Some r ≡ option_and_then (λ (c : CommandDef). recipe_of (scope_of p file c) m.value) o
+    by_command None e = absurd cc
+    by_command (Some c) e = let q : s ≡ scope_of p file c = cc in h ∙ ap (λ (t : Scope). recipe_of t m.value) q

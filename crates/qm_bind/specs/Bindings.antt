@@ -3,11 +3,11 @@ use Rattle.std.specs.Prelude.{ℕ, List, [], map, Option, Some, None, option_and
 use Rattle.qm_json.specs.declared.value.{Json.Json, Member.Member}
 use Rattle.qm_json.specs.Members.{value_in}
 use Rattle.qm_read.specs.{Faults.reading_of, declared.fault.JsonFault.JsonFault}
-use Rattle.qapi_types.specs.declared.parts.{CommandDef.CommandDef, EventDef.EventDef, Parts.Parts}
-use Rattle.qm_plan.specs.declared.{cells.Cell.Cell, events.Period.Period, recipes.Recipe.Recipe}
+use Rattle.qapi_types.specs.declared.parts.{CommandDef.CommandDef, Parts.Parts}
+use Rattle.qm_plan.specs.declared.{cells.Cell.Cell, recipes.Recipe.Recipe}
 use Rattle.qm_bind.specs.declared.binding.Binding.{Binding}
 use Rattle.qm_bind.specs.declared.fault.{BindFault.BindFault, BindRule.TheVariants.BadRecipe, BindRule.TheVariants.Memory, BindRule.TheVariants.NotJson}
-use Rattle.qm_bind.specs.{Faults.fault, Faults.file_fault, Faults.scope_of, Parts.FileParts, Parts.names_of, Parts.parts_of, Recipes.plain_recipe, Recipes.recipe_of, Standing.standing_recipe}
+use Rattle.qm_bind.specs.{Departures.fault, Faults.file_fault, Faults.scope_of, Parts.FileParts, Parts.names_of, Parts.parts_of, Periods.periods_for, Recipes.plain_recipe, Recipes.recipe_of, Standing.standing_recipe}
 
 -- the recipe of a command of which the file says nothing
 abbrev pub default_recipe : CommandDef → Recipe
@@ -24,10 +24,6 @@ recipe_for p file given command = unwrap_or (standing_recipe command.name) (unwr
 abbrev pub recipes_for : Parts → FileParts → List Member → List Recipe
 recipes_for p file given = map (recipe_for p file given) p.commands
 
--- each event is sent when it is raised
-abbrev pub unthrottled : EventDef → Period
-unthrottled event = record { name = event.name; micros = 0; key = [] }
-
 abbrev pub first_cell : Member → Cell
 first_cell m = record { name = m.name; first = m.value }
 
@@ -35,7 +31,7 @@ first_cell m = record { name = m.name; first = m.value }
 abbrev pub bound_of : Parts → FileParts → Binding
 bound_of p file = record {
   recipes = recipes_for p file file.commands;
-  periods = map unthrottled p.events;
+  periods = periods_for p file.events;
   cells = map first_cell file.cells;
   tallies = names_of file.tallies;
 }

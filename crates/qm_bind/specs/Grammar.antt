@@ -8,11 +8,15 @@ use Rattle.qm_json.specs.declared.value.Json.TheOpen as layer
 use Rattle.qm_plan.specs.declared.templates.{Template.Template, TemplateMember.TemplateMember}
 use Rattle.qm_plan.specs.declared.templates.Template.TheVariants as template
 
--- what templates may name
+-- what templates and acts may name
 pub record Scope : Type 0 where
   pub is_cell : List ℕ → Bool
   pub is_tally : List ℕ → Bool
   pub is_argument : List ℕ → Bool
+  -- what the id of a job may be
+  pub is_id : List ℕ → Bool
+  -- the events of the schema
+  pub events : List (List ℕ)
 
 abbrev pub layer_text : Json-F Json Member → Option (List ℕ)
 layer_text (layer.Json-F.Str bytes) = Some bytes

@@ -1,9 +1,11 @@
 pub mod Arguments
 pub mod Bindings
+pub mod Departures
 pub mod Faults
 pub mod Goodness
 pub mod Grammar
 pub mod Parts
+pub mod Periods
 pub mod Recipes
 pub mod Standing
 pub mod Walks

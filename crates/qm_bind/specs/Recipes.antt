@@ -1,13 +1,15 @@
 -- Recipes as JSON values (this project's own rule).
-use Rattle.std.specs.Prelude.{ℕ, ℤ, pos, negsuc, ◌==◌, ◌^◌, nat_lt, Bool, true, false, ◌&&◌, if◌then◌else◌, List, [], ◌∷◌, length, map, codes, Option, Some, None, option_map, option_and_then}
+use Rattle.std.specs.Prelude.{ℕ, ℤ, pos, negsuc, ◌==◌, ◌^◌, nat_lt, nat_le, Bool, true, false, ◌&&◌, if◌then◌else◌, List, [], ◌∷◌, length, map, codes, Option, Some, None, option_map, option_and_then}
 use Rattle.std.specs.{List.list_all, Option.option_map_or, Option.option_or, Str.bytes_eq}
 use Rattle.qm_base.specs.Names.{is_named}
 use Rattle.qm_json.specs.declared.value.{Json.Json, Json.out-Json, Member.Member, Json.TheOpen.Json-F}
 use Rattle.qm_json.specs.declared.value.Json.TheOpen as layer
+use Rattle.qm_json.specs.declared.value.Json.TheVariants as json
 use Rattle.qm_json.specs.Members.{member_of, members_of}
 use Rattle.qm_plan.specs.Plans.{no_members}
-use Rattle.qm_plan.specs.declared.templates.Template.{Template, TheVariants.Const}
-use Rattle.qm_plan.specs.declared.recipes.{Act.Act, Act.TheVariants.Set, Act.TheVariants.Add, Act.TheVariants.Fail, Recipe.Recipe, Waiting.Waiting, Waiting.TheVariants.No, Waiting.TheVariants.Hold, Waiting.TheVariants.Free}
+use Rattle.qapi_types.specs.Lookups.{place_of}
+use Rattle.qm_plan.specs.declared.templates.Template.{Template, TheVariants.Arg, TheVariants.Const}
+use Rattle.qm_plan.specs.declared.recipes.{Act.Act, Act.TheVariants.Set, Act.TheVariants.Add, Act.TheVariants.Raise, Act.TheVariants.Start, Act.TheVariants.Fail, Recipe.Recipe, Waiting.Waiting, Waiting.TheVariants.No, Waiting.TheVariants.Hold, Waiting.TheVariants.Free}
 use Rattle.qm_bind.specs.Grammar.{Scope, each_of, known_name, template_of, text_of}
 
 abbrev pub layer_members : Json-F Json Member → Option (List Member)
@@ -78,9 +80,96 @@ add_act scope value = option_and_then (λ (v : Pair). add_of (known_name scope.i
 abbrev pub fail_act : Json → Option Act
 fail_act value = option_map Fail (option_and_then text_of (only_in value (codes "fail")))
 
--- the act that a value is; events and jobs are not built
+abbrev pub are_parts : List (List ℕ) → List Member → Bool
+are_parts names members = list_all (λ (m : Member). is_named names m.name) members
+
+-- the value is an object without other members than those of the names
+abbrev pub has_parts : List (List ℕ) → Json → Bool
+has_parts names value = option_map_or (are_parts names) (object_of value) false
+
+abbrev pub raise_parts : List (List ℕ)
+raise_parts = codes "raise" ∷ codes "data" ∷ []
+
+abbrev pub start_parts : List (List ℕ)
+start_parts = codes "id" ∷ codes "units" ∷ codes "ready" ∷ codes "manual" ∷ []
+
+-- the number of the event that a string names
+abbrev pub event_of : Scope → Json → Option ℕ
+event_of scope value = option_and_then (place_of scope.events) (text_of value)
+
+-- what the data of an event is made of, where it has some
+abbrev pub payload_of : Scope → Option Json → Option (Option Template)
+payload_of scope None = Some None
+payload_of scope (Some value) = option_map Some (template_of scope value)
+
+abbrev pub raise_of : Option ℕ → Option (Option Template) → Option Act
+raise_of (Some event) (Some payload) = Some (Raise event payload)
+raise_of event payload = None
+
+abbrev pub raise_in : Scope → Json → Option Act
+raise_in scope value = raise_of (option_and_then (event_of scope) (member_of value (codes "raise"))) (payload_of scope (member_of value (codes "data")))
+
+-- an event is raised
+abbrev pub raise_act : Scope → Json → Option Act
+raise_act scope value = if has_parts raise_parts value then raise_in scope value else None
+
+abbrev pub const_id : Json → Option Template
+const_id value = option_map (λ text. Const (json.Str text)) (option_and_then text_of (only_in value (codes "const")))
+
+abbrev pub argument_id : Scope → Json → Option Template
+argument_id scope value = option_map Arg (option_and_then (known_name scope.is_id) (only_in value (codes "arg")))
+
+-- what the id of a job is made of: a string, or an argument that may be one
+abbrev pub id_of : Scope → Json → Option Template
+id_of scope value = option_or (const_id value) (argument_id scope value)
+
+-- how many units of work a job may have
+abbrev pub may_work : ℕ → Bool
+may_work units = nat_lt 0 units && nat_le units 1000000
+
+abbrev pub units_in : ℤ → Option ℕ
+units_in (pos n) = if may_work n then Some n else None
+units_in (negsuc n) = None
+
+abbrev pub layer_units : Json-F Json Member → Option ℕ
+layer_units (layer.Json-F.Int n) = units_in n
+layer_units value = None
+
+abbrev pub units_of : Json → Option ℕ
+units_of value = layer_units (out-Json value)
+
+abbrev pub layer_flag : Json-F Json Member → Option Bool
+layer_flag (layer.Json-F.Bool b) = Some b
+layer_flag value = None
+
+-- a boolean; if nothing is said it is false
+abbrev pub flag_of : Option Json → Option Bool
+flag_of None = Some false
+flag_of (Some value) = layer_flag (out-Json value)
+
+abbrev pub start_of : Option Template → Option ℕ → Option Bool → Option Bool → Option Act
+start_of (Some id) (Some units) (Some ready) (Some manual) = Some (Start id units ready manual)
+start_of id units ready manual = None
+
+abbrev pub start_in : Scope → Json → Option Act
+start_in scope value =
+    start_of (option_and_then (id_of scope) (member_of value (codes "id"))) (option_and_then units_of (member_of value (codes "units")))
+    (flag_of (member_of value (codes "ready"))) (flag_of (member_of value (codes "manual")))
+
+abbrev pub start_given : Scope → Json → Option Act
+start_given scope value = if has_parts start_parts value then start_in scope value else None
+
+-- a job is started
+abbrev pub start_act : Scope → Json → Option Act
+start_act scope value = option_and_then (start_given scope) (only_in value (codes "start"))
+
+-- an act on the store, or one that fails
+abbrev pub store_act : Scope → Json → Option Act
+store_act scope value = option_or (set_act scope value) (option_or (add_act scope value) (fail_act value))
+
+-- the act that a value is
 abbrev pub act_of : Scope → Json → Option Act
-act_of scope value = option_or (set_act scope value) (option_or (add_act scope value) (fail_act value))
+act_of scope value = option_or (store_act scope value) (option_or (raise_act scope value) (start_act scope value))
 
 abbrev pub acts_given : Scope → Json → Option (List Act)
 acts_given scope value = option_and_then (λ items. each_of (map (act_of scope) items)) (array_of value)

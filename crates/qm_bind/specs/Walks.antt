@@ -28,7 +28,8 @@ use Rattle.qm_bind.specs.Recipes.{Pair}
 use Rattle.qm_bind.specs.declared.scope.Names.{Names}
 use Rattle.qm_bind.specs.declared.file_recipes.Known.{Known}
 use Rattle.qm_bind.specs.Goodness.{is_file_template, scope_for}
-use Rattle.qm_bind.specs.{Arguments.may_give, Faults.fault, Grammar.Scope, Grammar.each_of, Grammar.simple_template, Grammar.template_of, Grammar.with_name}
+use Rattle.qapi_types.specs.Lookups.{event_names}
+use Rattle.qm_bind.specs.{Arguments.may_be_id, Arguments.may_give, Departures.fault, Grammar.Scope, Grammar.each_of, Grammar.simple_template, Grammar.template_of, Grammar.with_name}
 
 -- the fault that is told of
 abbrev pub told : Blame → BindFault
@@ -91,6 +92,8 @@ scope_in names = record {
   is_cell = is_named names.cells.now;
   is_tally = is_named names.tallies.now;
   is_argument = takes names.schema.now.kinds names.arguments;
+  is_id = may_be_id names.schema.now.kinds names.arg;
+  events = event_names names.schema.now;
 }
 
 -- a template by layers, where each value inside is a template or not

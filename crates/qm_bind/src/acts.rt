@@ -1,10 +1,12 @@
 ghost use Rattle.std.specs.Prelude.{◌≡◌, IfOk, map, option_and_then, option_map};
-ghost use Rattle.std.specs.Option.{option_copied};
+ghost use Rattle.std.specs.Option.{option_copied, option_or};
 ghost use Rattle.qm_bind.specs.Grammar.{each_of, known_name, template_of, text_of as text_in};
-ghost use Rattle.qm_bind.specs.Recipes.{act_of, acts_given, acts_of, add_act, add_of, amount_in, amount_of, fail_act, set_act, set_of};
+ghost use Rattle.qm_bind.specs.Recipes.{act_of, acts_given, acts_of, add_act, add_of, amount_in, amount_of, fail_act, raise_act, set_act, set_of, start_act, store_act};
 ghost use Rattle.qm_bind.specs.Walks.{scope_in};
 
+use crate::raises::raising;
 use crate::scope::Names;
+use crate::starts::starting;
 use crate::templates::template;
 use crate::values::{array_of, cell_name, only, only_two, tally_name, text_of};
 use qm_base::{NoMemory, Text};
@@ -98,9 +100,9 @@ fn failing(alloc: Global, value: &Json) -> Result<Option<Act>, NoMemory>
     }
 }
 
-/// The act that a value is.
-fn act(alloc: Global, names: &Names, value: &Json) -> Result<Option<Act>, NoMemory>
-    ensures { IfOk result (λ made. made ≡ act_of (scope_in names.now) value.now) }
+/// An act on the store, or one that fails.
+fn on_store(alloc: Global, names: &Names, value: &Json) -> Result<Option<Act>, NoMemory>
+    ensures { IfOk result (λ made. made ≡ store_act (scope_in names.now) value.now) }
 {
     if let Some(act) = setting(alloc, names, value)? {
         return Ok(Some(act));
@@ -109,6 +111,26 @@ fn act(alloc: Global, names: &Names, value: &Json) -> Result<Option<Act>, NoMemo
         return Ok(Some(act));
     }
     failing(alloc, value)
+}
+
+/// An event is raised, or a job is started.
+fn on_others(alloc: Global, names: &Names, value: &Json) -> Result<Option<Act>, NoMemory>
+    ensures { IfOk result (λ made. made ≡ option_or (raise_act (scope_in names.now) value.now) (start_act (scope_in names.now) value.now)) }
+{
+    if let Some(act) = raising(alloc, names, value)? {
+        return Ok(Some(act));
+    }
+    starting(alloc, names, value)
+}
+
+/// The act that a value is.
+pub fn act(alloc: Global, names: &Names, value: &Json) -> Result<Option<Act>, NoMemory>
+    ensures { IfOk result (λ made. made ≡ act_of (scope_in names.now) value.now) }
+{
+    if let Some(act) = on_store(alloc, names, value)? {
+        return Ok(Some(act));
+    }
+    on_others(alloc, names, value)
 }
 
 /// The acts that items are.

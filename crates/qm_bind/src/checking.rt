@@ -1,8 +1,9 @@
 ghost use Rattle.std.specs.Prelude.{◌≡◌, ◌≢◌, [], ◌∷◌, ◌++◌, OnOk, Ok, Err, None, true, IfOk, IfErr, IsTrue, map, option_map, option_and_then};
 ghost use Rattle.qm_json.specs.Cleanness.{IsClean, are_distinct};
 ghost use Rattle.qm_plan.specs.Stores.{names_of as cell_names};
-ghost use Rattle.qm_bind.specs.Bindings.{bind_of, binding_of, bound_of, first_cell, no_memory, recipes_for, unless, unthrottled};
-ghost use Rattle.qm_bind.specs.Faults.{commands_fault, events_fault, fault as fault_by, file_fault, later_fault, member_names};
+ghost use Rattle.qm_bind.specs.Bindings.{bind_of, binding_of, bound_of, first_cell, no_memory, recipes_for, unless};
+ghost use Rattle.qm_bind.specs.Departures.{fault as fault_by};
+ghost use Rattle.qm_bind.specs.Faults.{commands_fault, file_fault, later_fault, member_names};
 ghost use Rattle.qm_bind.specs.Goodness.{IsGoodBinding};
 ghost use Rattle.qm_bind.specs.Parts.{names_of};
 ghost use Rattle.qm_bind.specs.Walks.{seen_outcome, seen_parts, told};
@@ -12,11 +13,12 @@ use crate::commands::{Context, defaults, put_recipes};
 use crate::fault::{BindFault, BindRule, Blame};
 use crate::names::{first_twice, names_of_members, names_of_texts};
 use crate::parts::{FileParts, parts_of};
+use crate::periods::{events_blame, periods};
 use crate::values::text_of;
-use qapi_types::{EventDef, Schema, branch_graph};
+use qapi_types::{Schema, branch_graph};
 use qm_base::{NoMemory, Text};
 use qm_json::{Json, Member};
-use qm_plan::{Cell, CellList, Names, Period, PeriodList, Recipe};
+use qm_plan::{Cell, CellList, Names, Recipe};
 use qm_read::{JsonFault, read};
 use std::alloc::Global;
 
@@ -27,22 +29,6 @@ pub enum Outcome<'a> {
     Bound(Binding),
     /// This is their first fault.
     Bad(Blame<'a>),
-}
-
-/// The periods of events that are sent when they are raised.
-fn periods(alloc: Global, events: &[EventDef]) -> Result<PeriodList, NoMemory>
-    ensures { IfOk result (λ periods. periods ≡ map unthrottled events.now) }
-{
-    let mut periods = PeriodList::new(alloc);
-    for event in events {
-        let name = event.name.copy(alloc)?;
-        periods.push(Period {
-            name,
-            micros: 0,
-            key: Names::new(alloc),
-        })?;
-    }
-    Ok(periods)
 }
 
 /// The cells of these names and first values.
@@ -109,18 +95,6 @@ fn recipes_blame<'a>(
     put_recipes(alloc, &context, file.commands, recipes)
 }
 
-fn events_blame<'a>(events: &'a [Member]) -> Option<Blame<'a>>
-    ensures { option_map told result ≡ events_fault events.now }
-{
-    match events {
-        [] => None,
-        [first, ..] => Some(Blame {
-            rule: BindRule::BadPeriod,
-            name: first.name.as_slice(),
-        }),
-    }
-}
-
 /// The binding of a file without a fault, whose recipes these are.
 fn binding_with(
     alloc: Global,
@@ -131,7 +105,7 @@ fn binding_with(
     requires { recipes.items ≡ recipes_for schema.now (seen_parts file.now) file.now.commands.now }
     ensures { IfOk result (λ binding. binding ≡ bound_of schema.now (seen_parts file.now)) }
 {
-    let periods = periods(alloc, schema.parts().events.as_slice())?;
+    let periods = periods(alloc, schema, file.events)?;
     let cells = cells(alloc, file.cells)?;
     let tallies = tallies(alloc, file.tallies)?;
     Ok(Binding {
@@ -156,7 +130,7 @@ fn recipes_outcome<'a>(
     if let Some(blame) = recipes_blame(alloc, schema, file, &mut recipes)? {
         return Ok(Outcome::Bad(blame));
     }
-    if let Some(blame) = events_blame(file.events) {
+    if let Some(blame) = events_blame(alloc, schema, file.events)? {
         return Ok(Outcome::Bad(blame));
     }
     Ok(Outcome::Bound(binding_with(alloc, schema, file, recipes)?))
@@ -246,8 +220,10 @@ fn text_fault(alloc: Global, fault: JsonFault) -> BindFault
 /// What a bind file of this text binds the commands of a schema to, or its first fault: the text's
 /// own (`NotJson`), that the file is no object of the known members (`BadRecipe` without a name), a
 /// tally that is listed twice or has the name of a cell (`Twice`), then in the order of the text a
-/// recipe for a command that the schema lacks or that stands before each schema (`UnknownCommand`)
-/// or one that is none for its command (`BadRecipe`), and anything that is said of an event
+/// recipe for a command that the schema lacks or that stands before each schema (`UnknownCommand`),
+/// one that raises an event that the schema lacks (`UnknownEvent`, with the event's name) or is none
+/// for its command (`BadRecipe`), whichever stands first in it, and then in the order of the text a
+/// period for an event that the schema lacks (`UnknownEvent`) or one that is none for its event
 /// (`BadPeriod`). `Memory` comes only where a growth was refused.
 pub fn bind(alloc: Global, schema: &Schema, text: &[u8]) -> Result<Binding, BindFault>
     ensures value { result ≢ Err no_memory → result ≡ bind_of schema.now text.now }

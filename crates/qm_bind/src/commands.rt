@@ -1,13 +1,12 @@
-ghost use Rattle.std.specs.Prelude.{◌≡◌, ◌<◌, [], Ok, None, true, IfOk, IfSome, map, length, option_and_then, option_map, slice_get};
-ghost use Rattle.qapi_types.specs.declared.parts.CommandDef.{CommandDef as Command};
+ghost use Rattle.std.specs.Prelude.{◌≡◌, ◌<◌, [], Ok, Some, None, true, IfOk, IfSome, map, length, option_map, slice_get};
 ghost use Rattle.qapi_types.specs.{Choices.AreApart, Lookups.command_names};
 ghost use Rattle.qm_json.specs.Cleanness.{are_distinct};
 ghost use Rattle.qm_bind.specs.Bindings.{default_recipe, recipes_for};
 ghost use Rattle.qm_bind.specs.Faults.{command_fault, commands_fault, member_names, own_command, scope_of};
-ghost use Rattle.qm_bind.specs.Recipes.{recipe_of};
-ghost use Rattle.qm_bind.specs.Walks.{IsContext, file_in, told, with_recipe};
+ghost use Rattle.qm_bind.specs.Walks.{IsContext, file_in, scope_in, told, with_recipe};
 
 use crate::arguments::arguments_of;
+use crate::departures::blame;
 use crate::fault::{BindRule, Blame};
 use crate::parts::FileParts;
 use crate::recipes::{plain, recipe};
@@ -15,7 +14,7 @@ use crate::scope::Names;
 use crate::standing::{is_standing, standing};
 use qapi_types::{CommandDef, NameSet, Schema, TypeList};
 use qm_base::NoMemory;
-use qm_json::{Json, Member};
+use qm_json::Member;
 use qm_plan::Recipe;
 use std::alloc::Global;
 
@@ -68,29 +67,27 @@ fn command_of(schema: &Schema, name: &[u8]) -> Option<u32>
     }
 }
 
-/// The recipe that a value is for the command of the number.
-fn recipe_at(
+/// What the recipe of the command of the number may name.
+fn names_at<'a, 'b>(
     alloc: Global,
-    context: &Context,
+    context: &Context<'a, 'b>,
     number: u32,
-    value: &Json,
-) -> Result<Option<Recipe>, NoMemory>
+) -> Result<Names<'a, 'b>, NoMemory>
     requires context { IsContext context.now }
     requires within { number < length context.now.schema.now.commands }
-    ensures { IfOk result (λ made. made
-        ≡ option_and_then (λ (c : Command). recipe_of (scope_of context.now.schema.now (file_in context.now) c) value.now)
-        (slice_get context.now.schema.now.commands number)) }
+    ensures { IfOk result (λ names. Some (scope_in names)
+        ≡ option_map (scope_of context.now.schema.now (file_in context.now)) (slice_get context.now.schema.now.commands number)) }
 {
     let parts = context.schema.parts();
     let arg = context.schema.command(number).arg;
     let arguments = arguments_of(alloc, parts.kinds.as_slice(), context.graph, arg)?;
-    let names = Names {
+    Ok(Names {
         schema: context.schema,
         cells: context.cells,
         tallies: context.tallies,
         arguments,
-    };
-    recipe(alloc, &names, value)
+        arg,
+    })
 }
 
 /// Puts the recipe of a member in its place, or tells what is wrong with it.
@@ -114,11 +111,9 @@ fn put_recipe<'m>(
             name,
         }));
     };
-    let Some(recipe) = recipe_at(alloc, context, number, &member.value)? else {
-        return Ok(Some(Blame {
-            rule: BindRule::BadRecipe,
-            name,
-        }));
+    let names = names_at(alloc, context, number)?;
+    let Some(recipe) = recipe(alloc, &names, &member.value)? else {
+        return Ok(Some(blame(alloc, &names, name, &member.value)?));
     };
     recipes[number as usize] = recipe;
     Ok(None)

@@ -8,12 +8,11 @@ pub enum BindRule {
     NotJson(JsonFault),
     /// It has a recipe for a command that the schema lacks, or that stands before each schema.
     UnknownCommand,
-    /// It has a period for an event that the schema lacks. No answer has it yet, since no period
-    /// may be given yet.
+    /// It raises an event that the schema lacks, or has a period for one.
     UnknownEvent,
     /// It is no object of the known members, or a recipe in it is none for the command.
     BadRecipe,
-    /// What it says of an event is not allowed; nothing may be said of any yet.
+    /// What it says of an event is no period for it.
     BadPeriod,
     /// A tally is listed twice, or has the name of a cell.
     Twice,

@@ -1,12 +1,14 @@
 ghost use Rattle.std.specs.Prelude.{◌≡◌, ◌↔◌, length, IsTrue};
 ghost use Rattle.std.specs.List.{list_all};
-ghost use Rattle.qm_bind.specs.Goodness.{IsFileRecipe, is_file_act, is_file_template};
+ghost use Rattle.qm_bind.specs.Goodness.{IsFileRecipe, is_file_act, is_file_id as is_said_id, is_file_payload, is_file_template};
 ghost use Rattle.qm_bind.specs.Walks.{is_file_member, scope_known};
 
 use crate::binding::Binding;
-use crate::members::is_argument;
+use crate::members::{is_argument, is_id};
 use crate::named::{has_cell, has_text};
 use crate::recipes::may_wait;
+use crate::starts::may_work;
+use crate::values::text_of;
 use qapi_types::{ArgType, Schema};
 use qm_plan::{Act, Recipe, Template, TemplateMember};
 
@@ -26,6 +28,12 @@ impl<'a> Known<'a> {
         ensures { result ≡ (scope_known self.now).is_argument name.now }
     {
         is_argument(self.schema, self.arg, name)
+    }
+
+    fn has_id(&self, name: &[u8]) -> bool
+        ensures { result ≡ (scope_known self.now).is_id name.now }
+    {
+        is_id(self.schema, self.arg, name)
     }
 
     fn has_cell(&self, name: &[u8]) -> bool
@@ -92,6 +100,27 @@ fn are_members(known: &Known, members: &[TemplateMember]) -> bool
     true
 }
 
+/// Whether a file can say what the data of an event is made of.
+fn is_payload(known: &Known, payload: &Option<Template>) -> bool
+    ensures { result ≡ is_file_payload (scope_known known.now) payload.now }
+{
+    match payload {
+        Some(payload) => is_template(known, payload),
+        None => true,
+    }
+}
+
+/// Whether a file can say what the id of a job is made of.
+fn is_file_id(known: &Known, id: &Template) -> bool
+    ensures { result ≡ is_said_id (scope_known known.now) id.now }
+{
+    match id {
+        Template::Const(value) => text_of(value).is_some(),
+        Template::Arg(name) => known.has_id(name.as_slice()),
+        _ => false,
+    }
+}
+
 /// Whether a file can say the act.
 fn is_act(known: &Known, act: &Act) -> bool
     ensures { result ≡ is_file_act (scope_known known.now) act.now }
@@ -100,8 +129,10 @@ fn is_act(known: &Known, act: &Act) -> bool
         Act::Set { cell, to } => known.has_cell(cell.as_slice()) && is_template(known, to),
         Act::Add { tally, by } => known.has_tally(tally.as_slice()) && *by > 0,
         Act::Fail(_) => true,
-        Act::Raise { .. } => false,
-        Act::Start { .. } => false,
+        Act::Raise { event, payload } => {
+            *event < known.schema.events() && is_payload(known, payload)
+        }
+        Act::Start { id, units, .. } => is_file_id(known, id) && may_work(*units),
         Act::OnJob { .. } => false,
         Act::Negotiate => false,
         Act::Enable(_) => false,

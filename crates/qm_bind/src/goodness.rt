@@ -1,20 +1,21 @@
-ghost use Rattle.std.specs.Prelude.{◌≡◌, ◌↔◌, ◌&&◌, not, map, IsTrue};
+ghost use Rattle.std.specs.Prelude.{◌≡◌, ◌↔◌, ◌&&◌, not, IsTrue};
 ghost use Rattle.std.specs.List.{All, AllZip, list_all};
 ghost use Rattle.std.specs.Str.{is_utf8 as is_utf8_text};
 ghost use Rattle.qm_base.specs.Names.{is_named};
 ghost use Rattle.qm_json.specs.Cleanness.{are_distinct};
 ghost use Rattle.qm_plan.specs.Cleanness.{IsCleanRecipe, is_clean_act as is_clean_act_of};
 ghost use Rattle.qm_plan.specs.Stores.{names_of};
-ghost use Rattle.qm_bind.specs.Bindings.{unthrottled};
-ghost use Rattle.qm_bind.specs.Goodness.{IsGoodBinding, IsRecipeFor, is_clean_cell as is_clean_cell_of};
+ghost use Rattle.qm_bind.specs.Arguments.{may_be_key};
+ghost use Rattle.qm_bind.specs.Goodness.{IsGoodBinding, IsPeriodFor, IsRecipeFor, is_clean_cell as is_clean_cell_of, is_file_micros};
 
 use crate::binding::Binding;
 use crate::cleanness::{is_clean_act, is_clean_cell, is_clean_template, is_utf8};
 use crate::file_recipes::{Known, is_file_recipe};
+use crate::members::is_key;
 use crate::named::{distinct_cells, distinct_texts, has_cell};
 use crate::standing::is_standing;
 use crate::standing_recipes::is_standing_recipe;
-use qapi_types::{CommandDef, EventDef, Schema};
+use qapi_types::{CommandDef, EventDef, Kind, Schema};
 use qm_base::Text;
 use qm_plan::{Act, Cell, Period, Recipe};
 
@@ -52,22 +53,42 @@ fn have_recipes(schema: &Schema, binding: &Binding) -> bool
     true
 }
 
-/// Whether the period is that of an event that is sent when it is raised.
-fn is_unthrottled(event: &EventDef, period: &Period) -> bool
-    ensures { IsTrue result ↔ (period.now ≡ unthrottled event.now) }
+/// Whether a file can give a period of so many microseconds.
+fn is_file_period(micros: u64) -> bool
+    ensures { result ≡ is_file_micros micros }
 {
-    period.name.same(&event.name) && period.micros == 0 && period.key.len() == 0
+    micros <= 3_600_000_000 && micros % 1000 == 0
+}
+
+/// Whether each of the names may tell events with data of the type apart.
+fn are_keys(kinds: &[Kind], type_id: u32, names: &[Text]) -> bool
+    ensures { result ≡ list_all (may_be_key kinds.now type_id) names.now }
+{
+    names
+        .iter()
+        .all(|name| is_key(kinds, type_id, name.as_slice()))
+}
+
+/// Whether the period is one for the event.
+fn is_period_for(schema: &Schema, event: &EventDef, period: &Period) -> bool
+    ensures { IsTrue result ↔ IsPeriodFor schema.now event.now period.now }
+{
+    let kinds = schema.parts().kinds.as_slice();
+    period.name.same(&event.name)
+        && is_file_period(period.micros)
+        && are_keys(kinds, event.arg, period.key.as_slice())
 }
 
 /// Whether each event has its period, by its number.
-fn have_periods(events: &[EventDef], periods: &[Period]) -> bool
-    ensures { IsTrue result ↔ (periods.now ≡ map unthrottled events.now) }
+fn have_periods(schema: &Schema, periods: &[Period]) -> bool
+    ensures { IsTrue result ↔ AllZip (IsPeriodFor schema.now) schema.now.events periods.now }
 {
+    let events = schema.parts().events.as_slice();
     if events.len() != periods.len() {
         return false;
     }
     for i in 0..events.len() {
-        if !is_unthrottled(&events[i], &periods[i]) {
+        if !is_period_for(schema, &events[i], &periods[i]) {
             return false;
         }
     }
@@ -134,14 +155,14 @@ fn is_clean(binding: &Binding) -> bool
 
 /// Whether the binding is good for the schema: it has one recipe for each command and one period for
 /// each event, by number; a command that stands before each schema has its own recipe, and each
-/// other one that a bind file can give; no event is throttled; cells and tallies have names of their
+/// other one that a bind file can give; each period is one that a bind file can give; cells and tallies have names of their
 /// own; and a text can spell what is in it. It takes no memory. It looks for an argument along each
 /// choice of branches, and for equal names pair by pair.
 pub fn binding_good(schema: &Schema, binding: &Binding) -> bool
     ensures { IsTrue result ↔ IsGoodBinding schema.now binding.now }
 {
     have_recipes(schema, binding)
-        && have_periods(schema.parts().events.as_slice(), binding.periods.as_slice())
+        && have_periods(schema, binding.periods.as_slice())
         && is_clean(binding)
         && have_good_names(binding.cells.as_slice(), binding.tallies.as_slice())
 }

@@ -1,4 +1,5 @@
-ghost use Rattle.std.specs.Prelude.{◌≡◌, ◌≢◌, ◌↔◌, ℕ, List, Ok, Err, true, IsTrue};
+ghost use Rattle.std.specs.Prelude.{◌≡◌, ◌≢◌, ◌↔◌, ℕ, List, Ok, Err, true, map, IsTrue};
+ghost use Rattle.qapi_types.specs.Lookups.{event_names};
 ghost use Rattle.qapi_types.specs.declared.parts.Parts.{Parts};
 ghost use Rattle.qapi_types.specs.Goodness.{IsGood};
 ghost use Rattle.qm_json.specs.Cleanness.{are_distinct};
@@ -7,7 +8,7 @@ ghost use Rattle.qm_read.specs.declared.fault.JsonFault.TheVariants as text_rule
 ghost use Rattle.qm_bind.specs.declared.binding.Binding.{Binding};
 ghost use Rattle.qm_bind.specs.declared.fault.BindRule.TheVariants as rule;
 ghost use Rattle.qm_bind.specs.Bindings.{bind_of};
-ghost use Rattle.qm_bind.specs.Faults.{fault};
+ghost use Rattle.qm_bind.specs.Departures.{fault};
 ghost use Rattle.qm_bind.specs.Goodness.{IsGoodBinding};
 ghost use Rattle.qm_bind.specs.Arguments.{MayHave, may_have};
 
@@ -36,6 +37,16 @@ pub fn memory_is_no_fault()
         bind_of p text ≢ Err (fault rule.Memory name) }
     ensures text { (p : Parts) (text name : List ℕ) →
         bind_of p text ≢ Err (fault (rule.NotJson text_rule.Memory) name) }
+{}
+
+/// The periods of a good binding have the names of the events, in their order: each event has one,
+/// and where no two definitions of the schema have one name, no two periods have.
+#[tactic(auto, using(crate::proofs::PeriodLaws::period_names, crate::proofs::PeriodLaws::period_names_distinct))]
+pub fn each_good_binding_has_own_periods()
+    ensures names { (p : Parts) (binding : Binding) →
+        IsGoodBinding p binding → map (λ period. period.name) binding.periods ≡ event_names p }
+    ensures distinct { (p : Parts) (binding : Binding) → IsGood p → IsGoodBinding p binding →
+        IsTrue (are_distinct (map (λ period. period.name) binding.periods)) }
 {}
 
 /// What a file is bound to is good for the schema.

@@ -8,6 +8,7 @@ pub mod binding;
 mod checking;
 mod cleanness;
 mod commands;
+mod departures;
 pub mod fault;
 mod file_recipes;
 mod goodness;
@@ -17,10 +18,13 @@ mod members;
 mod named;
 mod names;
 mod parts;
+mod periods;
+mod raises;
 mod recipes;
 mod scope;
 mod standing;
 mod standing_recipes;
+mod starts;
 mod templates;
 mod values;
 
@@ -30,5 +34,5 @@ pub use fault::{BindFault, BindRule};
 pub use goodness::binding_good;
 pub use laws::{
     each_argument_is_a_member, each_binding_has_distinct_names, each_binding_is_good,
-    memory_is_no_fault,
+    each_good_binding_has_own_periods, memory_is_no_fault,
 };

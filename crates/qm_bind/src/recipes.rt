@@ -58,7 +58,7 @@ fn named(name: &[u8]) -> Option<Waiting>
 }
 
 /// Whether the command waits.
-fn waiting(value: Option<&Json>) -> Option<Waiting>
+pub fn waiting(value: Option<&Json>) -> Option<Waiting>
     ensures { result ≡ waiting_of (option_copied value.entry) }
 {
     match value {

@@ -4,7 +4,8 @@ ghost use Rattle.qapi_types.specs.Types.{kind_of, member_names};
 ghost use Rattle.qm_base.specs.Names.{is_named};
 
 use crate::arguments::Arguments;
-use qapi_types::{NameSet, Schema};
+use crate::members::is_id;
+use qapi_types::{ArgType, NameSet, Schema};
 
 /// What a recipe may name.
 #[derive(Drop)]
@@ -15,8 +16,10 @@ pub struct Names<'a, 'b> {
     pub cells: &'a NameSet<'b>,
     /// The names of the tallies.
     pub tallies: &'a NameSet<'b>,
-    /// What the command takes.
+    /// The names of what the command takes.
     pub arguments: Arguments,
+    /// What the command takes.
+    pub arg: ArgType,
 }
 
 /// Whether the type has a member of the name.
@@ -36,6 +39,7 @@ fn is_member(schema: &Schema, types: &[u32], name: &[u8]) -> bool
 }
 
 impl<'a, 'b> Names<'a, 'b> {
+    ghost use Rattle.qm_bind.specs.Arguments.{may_be_id};
     ghost use Rattle.qm_bind.specs.Walks.{takes};
 
     /// Whether an argument of the name may be given.
@@ -46,5 +50,12 @@ impl<'a, 'b> Names<'a, 'b> {
             Arguments::Any => true,
             Arguments::Of(types) => is_member(self.schema, types.as_slice(), name),
         }
+    }
+
+    /// Whether the argument of the name may be the id of a job.
+    pub fn has_id(&self, name: &[u8]) -> bool
+        ensures { result ≡ may_be_id self.now.schema.now.kinds self.now.arg name.now }
+    {
+        is_id(self.schema, self.arg, name)
     }
 }

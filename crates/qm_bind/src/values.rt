@@ -104,7 +104,7 @@ pub fn only_two<'a>(value: &'a Json, name: &[u8], other: &[u8]) -> Option<Pair<'
 }
 
 /// A copy of a name that is known.
-fn copied(alloc: Global, is_known: bool, name: &[u8]) -> Result<Option<Text>, NoMemory>
+pub fn copied(alloc: Global, is_known: bool, name: &[u8]) -> Result<Option<Text>, NoMemory>
     ensures { IfOk result (λ copy. copy ≡ (if is_known then Some name.now else None)) }
 {
     if is_known {
@@ -140,6 +140,16 @@ pub fn argument_name(alloc: Global, names: &Names, value: &Json) -> Result<Optio
 {
     match text_of(value) {
         Some(name) => copied(alloc, names.has_argument(name), name),
+        None => Ok(None),
+    }
+}
+
+/// The name of an argument that a string is, where it may be the id of a job.
+pub fn id_name(alloc: Global, names: &Names, value: &Json) -> Result<Option<Text>, NoMemory>
+    ensures { IfOk result (λ name. name ≡ known_name (scope_in names.now).is_id value.now) }
+{
+    match text_of(value) {
+        Some(name) => copied(alloc, names.has_id(name), name),
         None => Ok(None),
     }
 }
