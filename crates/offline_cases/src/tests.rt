@@ -11,6 +11,7 @@ mod grammar;
 mod lengths;
 mod lines;
 mod name_rules;
+mod refusals;
 mod runs;
 mod schemas;
 mod served;
@@ -228,6 +229,8 @@ fn runs_with_several_sessions(rt: HostRuntime) -> Result<(), Fail> {
         several::QUITS,
         steps::OUT_OF_BAND,
         steps::ORDER,
+        refusals::FULL,
+        refusals::NEIGHBOURS,
     ] {
         assert_eq!(rt; other_answers(alloc, files.as_str(), cases)?.as_str(), "");
     }

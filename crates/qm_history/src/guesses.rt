@@ -3,7 +3,7 @@ ghost use Rattle.std.specs.Option.{option_copied};
 ghost use Rattle.std.specs.Str.{bytes_eq};
 ghost use Rattle.qm_core.specs.Texts.{frame_word_of, lane_word_of};
 ghost use Rattle.qm_core.specs.declared.inputs.Input.TheVariants.{Bad};
-ghost use Rattle.qm_history.specs.Guesses.{admit_head as admit_head_of, admit_input as admit_input_of, admit_lane as admit_lane_of, admit_number as admit_number_of, answer_in as answer_in_of, answer_moment as answer_moment_of, answer_number as answer_number_of, answer_value as answer_value_of, bad_in, document_in, done as done_of, drop_head as drop_head_of, eof_head as eof_head_of, frame_in, guess as guess_of, head_in as head_in_of, head_line_of, input_in, json_in, json_word as json_word_in, lane_in, moment_in, oob_done as oob_done_of, open_head as open_head_of, same_line, start_head as start_head_of, take_head as take_head_of, told_by, verb_head as verb_head_of};
+ghost use Rattle.qm_history.specs.Guesses.{admit_head as admit_head_of, admit_input as admit_input_of, admit_lane as admit_lane_of, admit_number as admit_number_of, answer_in as answer_in_of, answer_moment as answer_moment_of, answer_number as answer_number_of, answer_value as answer_value_of, bad_in, document_in, done as done_of, drop_head as drop_head_of, eof_head as eof_head_of, frame_in, guess as guess_of, head_in as head_in_of, head_line_of, input_in, json_in, json_word as json_word_in, lane_in, moment_in, oob_done as oob_done_of, open_head as open_head_of, same_line, start_head as start_head_of, take_head as take_head_of, told_by, value_in, verb_head as verb_head_of};
 
 use crate::texts::{put_number, put_said, put_word_request};
 use crate::words::{after_blank, before_blank, session};
@@ -85,6 +85,17 @@ fn moment(text: &[u8]) -> Option<u64>
     }
 }
 
+/// The value that a text spells, nested however deeply.
+fn value(alloc: Global, text: &[u8]) -> Result<Option<Json>, NoMemory>
+    ensures { IfOk result (λ value. value ≡ value_in text.now) }
+{
+    match read_within(alloc, text, text.len()) {
+        Ok(value) => Ok(Some(value)),
+        Err(JsonFault::Memory) => Err(NoMemory),
+        Err(_) => Ok(None),
+    }
+}
+
 fn answer_value(
     alloc: Global,
     session: u32,
@@ -94,15 +105,15 @@ fn answer_value(
 ) -> Result<Option<Answer>, NoMemory>
     ensures { IfOk result (λ answer. answer ≡ answer_value_of session number moment text.now) }
 {
-    match read_within(alloc, text, text.len()) {
-        Ok(reply) => Ok(Some(Answer {
+    match value(alloc, text) {
+        Ok(Some(reply)) => Ok(Some(Answer {
             session,
             number,
             reply,
             moment,
         })),
-        Err(JsonFault::Memory) => Err(NoMemory),
-        Err(_) => Ok(None),
+        Ok(None) => Ok(None),
+        Err(NoMemory) => Err(NoMemory),
     }
 }
 
@@ -243,13 +254,13 @@ fn bad(text: &[u8]) -> Option<BadInput>
 fn document(alloc: Global, text: &[u8]) -> Result<Option<Input>, NoMemory>
     ensures { IfOk result (λ input. input ≡ document_in text.now) }
 {
-    match read_within(alloc, text, text.len()) {
-        Ok(value) => match Shared::new(alloc, value) {
+    match value(alloc, text) {
+        Ok(Some(value)) => match Shared::new(alloc, value) {
             Ok(value) => Ok(Some(Input::Doc(value))),
             Err(NoMemory) => Err(NoMemory),
         },
-        Err(JsonFault::Memory) => Err(NoMemory),
-        Err(_) => Ok(None),
+        Ok(None) => Ok(None),
+        Err(NoMemory) => Err(NoMemory),
     }
 }
 

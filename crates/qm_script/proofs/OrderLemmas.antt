@@ -4,7 +4,8 @@ use Rattle.std.specs.{Option.option_and_then, Option.option_or, Str.bytes_eq, St
 use Rattle.std.proofs.lemmas.Bool.Decides.{nat_tests}
 use Rattle.qm_base.specs.Numerals.{is_numeral, number_of}
 use Rattle.qm_core.specs.{Texts.cause_of, declared.entries.Cause.Cause}
-use Rattle.qm_script.specs.Orders.{after_blank, after_word, before_blank, drop_order, feed_order, is_blank, is_hex, long_order_of, oob_order, order_of, session_after, session_number, text_order}
+use Rattle.qm_history.specs.Words.{after_blank, before_blank, is_blank, session_number}
+use Rattle.qm_script.specs.Orders.{after_word, drop_order, feed_order, is_hex, long_order_of, oob_order, order_of, session_after, text_order}
 use Rattle.qm_script.specs.declared.orders.Order.{Order}
 use Rattle.qm_script.specs.declared.orders.Order.TheVariants.{Open, Text, Feed, Admit, Start, Finish, Oob, Take, Eof, Drop}
 

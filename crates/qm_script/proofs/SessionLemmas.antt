@@ -55,14 +55,14 @@ fed-at feeders s place d at within =
     ∙ ap (λ (o : Option (Option (List ℕ))). unwrap_or (option_map fed_of o) []) (slice_get-get_or feeders place d within)
 
 -- others are fed
-pub fed_turns : (self : Playing) (m : View) (feeders : List (Option (List ℕ))) (s place : ℕ) (bytes more : List ℕ) (d : Option (List ℕ)) → playing m feeders ≡ self → TakesMore self s place →
+pub fed_turns : (self : Playing) (m : View) (feeders : List (Option (List ℕ))) (s place : ℕ) (bytes more : List ℕ) (d : Option (List ℕ)) → playing m feeders ≡ self → TakesMore self s → place ≡ s - 1 →
     place < length feeders → more ≡ fed_of (get_or feeders place d) ++ bytes → FedTurns self s bytes None (playing m (set feeders place (Some more)))
 unfolding FedTurns closed_stop
-fed_turns self m feeders s place bytes more d seen takes within is =
+fed_turns self m feeders s place bytes more d seen takes at within is =
     let free : session_refusal s (past_of self.played.journal) None ≡ None = no_stop _ takes.going in
     let all : map fed_of (set feeders place (Some more)) ≡ set (map fed_of feeders) (s - 1) (fed_to s (map fed_of feeders) ++ bytes) =
-    map-set fed_of feeders place (Some more) ∙ ap (λ (n : ℕ). set (map fed_of feeders) n more) takes.at
-    ∙ ap (λ (l : List ℕ). set (map fed_of feeders) (s - 1) l) (is ∙ ap (λ (l : List ℕ). l ++ bytes) (sym (fed-at feeders s place d takes.at within))) in
+    map-set fed_of feeders place (Some more) ∙ ap (λ (n : ℕ). set (map fed_of feeders) n more) at
+    ∙ ap (λ (l : List ℕ). set (map fed_of feeders) (s - 1) l) (is ∙ ap (λ (l : List ℕ). l ++ bytes) (sym (fed-at feeders s place d at within))) in
     let turns : Turns (playing m feeders) (fed_step record { journal = m.journal; fed = map fed_of feeders } s bytes None) None (playing m (set feeders place (Some more))) = (refl, rw all refl) in
     subst (λ (f : Option StepFault). Turns self (fed_step self.played s bytes f) None (playing m (set feeders place (Some more)))) (sym free)
     (subst (λ (p : Playing). Turns p (fed_step p.played s bytes None) None (playing m (set feeders place (Some more)))) seen turns)
@@ -84,15 +84,15 @@ next_admits self new s found input stop none is turns =
     subst (λ (f : Option StepFault). Turns self (admit_step self.world self.limits self.played s f) stop new) (sym none)
     (subst (λ (i : Option Input). Turns self (input_step self.world self.limits self.played s i) stop new) is turns)
 
-pub admit_none : (self : Playing) (s place : ℕ) (input : Option Input) → TakesMore self s place → input ≡ next_input_of self s → input ≡ None → AdmitTurns self s (Some (Step word.NoFrame)) self
+pub admit_none : (self : Playing) (s : ℕ) (input : Option Input) → TakesMore self s → input ≡ next_input_of self s → input ≡ None → AdmitTurns self s (Some (Step word.NoFrame)) self
 unfolding AdmitTurns closed_stop next_input_of
-admit_none self s place input takes is missing =
+admit_none self s input takes is missing =
     next_admits self self s (session_refusal s (past_of self.played.journal) None) None (Some (Step word.NoFrame)) (no_stop _ takes.going) (sym missing ∙ is) (refl, refl)
 
-pub admit_some : (self new : Playing) (s place : ℕ) (input : Option Input) (first : Input) (stop : Option Stop) → TakesMore self s place → input ≡ next_input_of self s → input ≡ Some first →
+pub admit_some : (self new : Playing) (s : ℕ) (input : Option Input) (first : Input) (stop : Option Stop) → TakesMore self s → input ≡ next_input_of self s → input ≡ Some first →
     StepTurns self (step.Admit s first) stop new → AdmitTurns self s stop new
 unfolding AdmitTurns StepTurns closed_stop next_input_of
-admit_some self new s place input first stop takes is there turns =
+admit_some self new s input first stop takes is there turns =
     next_admits self new s (session_refusal s (past_of self.played.journal) None) (Some first) stop (no_stop _ takes.going) (sym there ∙ is) turns
 
 -- the next input is that of the bytes that were fed
@@ -127,14 +127,14 @@ open_ends self new s moment found asked stop none is turns =
     (subst (λ (o : Option RequestName). Turns self (opened_step self.world self.limits self.played s moment o) stop new) is turns)
 
 -- nor where none is open
-pub oob_none : (self : Playing) (s place moment : ℕ) (asked : Option RequestName) → TakesMore self s place → asked ≡ named_of (open_out_of_band_of s (past_of self.played.journal)) → asked ≡ None →
+pub oob_none : (self : Playing) (s moment : ℕ) (asked : Option RequestName) → TakesMore self s → asked ≡ named_of (open_out_of_band_of s (past_of self.played.journal)) → asked ≡ None →
     OobTurns self s moment (Some (Step word.NotOpen)) self
 unfolding OobTurns closed_stop
-oob_none self s place moment asked takes is missing =
+oob_none self s moment asked takes is missing =
     open_ends self self s moment (session_refusal s (past_of self.played.journal) None) None (Some (Step word.NotOpen)) (no_stop _ takes.going) (sym missing ∙ is) (refl, refl)
 
-pub oob_some : (self new : Playing) (s place moment : ℕ) (asked : Option RequestName) (request : RequestName) (stop : Option Stop) → TakesMore self s place →
+pub oob_some : (self new : Playing) (s moment : ℕ) (asked : Option RequestName) (request : RequestName) (stop : Option Stop) → TakesMore self s →
     asked ≡ named_of (open_out_of_band_of s (past_of self.played.journal)) → asked ≡ Some request → StepTurns self (step.FinishOob s request.number moment) stop new → OobTurns self s moment stop new
 unfolding OobTurns StepTurns closed_stop
-oob_some self new s place moment asked request stop takes is there turns =
+oob_some self new s moment asked request stop takes is there turns =
     open_ends self new s moment (session_refusal s (past_of self.played.journal) None) (Some request) stop (no_stop _ takes.going) (sym there ∙ is) turns

@@ -1,5 +1,5 @@
 -- What a player keeps, and what a line and a script end with. This serves private functions.
-use Rattle.std.specs.Prelude.{◌≡◌, ℕ, ◌-◌, ◌<◌, List, [], map, length, slice_get, unwrap_or, Option, Some, None, option_map, true, Result, Ok, Err}
+use Rattle.std.specs.Prelude.{◌≡◌, ℕ, ◌-◌, ◌≤◌, ◌<◌, List, [], map, length, slice_get, unwrap_or, Option, Some, None, option_map, true, Result, Ok, Err}
 use Rattle.qm_core.specs.{Legal.past_of, Next.View, Next.Step, Next.session_refusal, Standing.sessions_of, Standing.admitted_of, Standing.named_of, Standing.running_of, Standing.was_opened}
 use Rattle.qm_core.specs.declared.{entries.Cause.Cause, entries.Entry.Entry, inputs.Input.Input}
 use Rattle.qm_script.specs.{Endings.stop_of, Fed.fed_inputs_of, Players.Playing, Playing.Played, Playing.Ended}
@@ -68,12 +68,12 @@ LineTurns old line stop new = Turns old (line_step old.world old.limits old.play
 unfoldable pub closed_stop : Playing → ℕ → Option Stop
 closed_stop old s = option_map stop_of (session_refusal s (past_of old.played.journal) None)
 
--- a session that takes more, and its place
-pub record TakesMore (p : Playing) (s place : ℕ) : Type 0 where
+-- a session that takes more, whose bytes have a place
+pub record TakesMore (p : Playing) (s : ℕ) : Type 0 where
   pub going : closed_stop p s ≡ None
   pub known : was_opened s (past_of p.played.journal) ≡ true
-  pub at : place ≡ s - 1
-  pub within : place < length p.played.fed
+  pub low : 1 ≤ s
+  pub within : s - 1 < length p.played.fed
 
 -- the next input of a session
 unfoldable pub next_input_of : Playing → ℕ → Option Input

@@ -1,38 +1,14 @@
 -- What a line of a script orders (this project's own rule).
-use Rattle.std.specs.Prelude.{ℕ, ◌+◌, ◌*◌, ◌^◌, ◌-◌, ◌%◌, position, [], ◌∷◌, ◌==◌, nat_lt, nat_le, nat_eq, Bool, if◌then◌else◌, ◌&&◌, ◌||◌, List, length, take, drop, codes, Option, Some, None, is_some, option_map}
+use Rattle.std.specs.Prelude.{ℕ, ◌+◌, ◌*◌, ◌-◌, ◌%◌, position, [], ◌∷◌, ◌==◌, nat_lt, nat_le, nat_eq, Bool, if◌then◌else◌, ◌&&◌, ◌||◌, List, length, drop, codes, Option, Some, None, is_some, option_map}
 use Rattle.std.specs.{List.starts_with, List.list_all, Option.option_and_then, Option.option_or, Str.bytes_eq}
 use Rattle.qm_base.specs.Numerals.{number_of}
 use Rattle.qm_core.specs.Texts.{cause_of}
+use Rattle.qm_history.specs.Words.{after_blank, before_blank, is_blank, session_number}
 use Rattle.qm_script.specs.declared.orders.Order.{Order, TheVariants.Open, TheVariants.Text, TheVariants.Feed, TheVariants.Admit, TheVariants.Start, TheVariants.Finish, TheVariants.Oob, TheVariants.Take, TheVariants.Eof, TheVariants.Drop}
 
 -- what follows a word at the front of a line
 abbrev pub after_word : List ℕ → List ℕ → Option (List ℕ)
 after_word word line = if starts_with nat_eq line word then Some (drop (length word) line) else None
-
-abbrev pub is_blank : ℕ → Bool
-is_blank x = x == 32
-
-abbrev pub before_at : List ℕ → Option ℕ → List ℕ
-before_at text None = text
-before_at text (Some n) = take n text
-
-abbrev pub after_at : List ℕ → Option ℕ → List ℕ
-after_at text None = []
-after_at text (Some n) = drop (n + 1) text
-
--- what stands before the first blank, or all without one; and what follows it, or nothing
-abbrev pub before_blank : List ℕ → List ℕ
-before_blank text = before_at text (position is_blank text)
-
-abbrev pub after_blank : List ℕ → List ℕ
-after_blank text = after_at text (position is_blank text)
-
-abbrev pub below : ℕ → ℕ → Option ℕ
-below most n = if nat_lt n most then Some n else None
-
--- a session number, of 32 bits
-abbrev pub session_number : List ℕ → Option ℕ
-session_number text = option_and_then (below (2 ^ 32)) (number_of text)
 
 -- `S REST`, where REST may be empty
 abbrev pub text_order : List ℕ → Option Order

@@ -1,12 +1,14 @@
-ghost use Rattle.std.specs.Prelude.{◌≡◌, ◌<◌, length, position, IfSome, option_map, codes, Option, Some};
+ghost use Rattle.std.specs.Prelude.{◌≡◌, position, option_map, codes, Option, Some};
+ghost use Rattle.qm_history.specs.Words.{is_blank};
 ghost use Rattle.std.specs.Option.{option_copied, option_and_then};
-ghost use Rattle.qm_script.specs.Orders.{after_word as after_word_of, before_blank as before_blank_of, after_blank as after_blank_of, is_blank, session_number, session_after as session_after_of, long_order_of, text_order as text_order_of, feed_order as feed_order_of, oob_order as oob_order_of, drop_order as drop_order_of, order_of, is_skipped as is_skipped_line, fed_by as fed_by_of};
+ghost use Rattle.qm_script.specs.Orders.{after_word as after_word_of, session_after as session_after_of, long_order_of, text_order as text_order_of, feed_order as feed_order_of, oob_order as oob_order_of, drop_order as drop_order_of, order_of, is_skipped as is_skipped_line, fed_by as fed_by_of};
 ghost use Rattle.qm_script.specs.declared.orders.Order.TheVariants.{Admit, Finish, Take, Eof};
 ghost use Rattle.qm_base.specs.Numerals.{number_of};
 
 use crate::hex::is_hex;
 use qm_base::number;
 use qm_core::Cause;
+use qm_history::{after_blank, before_blank, session};
 
 /// What a line of a script orders.
 #[derive(Clone, Copy, Debug, PartialEq, Eq)]
@@ -43,38 +45,10 @@ fn after_word<'a>(word: &[u8], line: &'a [u8]) -> Option<&'a [u8]>
     }
 }
 
-fn session(text: &[u8]) -> Option<u32>
-    ensures { result ≡ session_number text.now }
-{
-    match number(text) {
-        Some(n) if n < 0x1_0000_0000 => Some(n as u32),
-        _ => None,
-    }
-}
-
 fn blank_at(text: &[u8]) -> Option<usize>
-    ensures place { result ≡ position is_blank text.now }
-    ensures within { IfSome result (λ at. at < length text.now) }
+    ensures { result ≡ position is_blank text.now }
 {
     text.iter().position(|byte| *byte == b' ')
-}
-
-fn before_blank(text: &[u8]) -> &[u8]
-    ensures { result.now ≡ before_blank_of text.now }
-{
-    match blank_at(text) {
-        Some(at) => &text[..at],
-        None => text,
-    }
-}
-
-fn after_blank(text: &[u8]) -> &[u8]
-    ensures { result.now ≡ after_blank_of text.now }
-{
-    match blank_at(text) {
-        Some(at) => &text[at + 1..],
-        None => &[],
-    }
 }
 
 fn text_order(text: &[u8]) -> Option<Order>

@@ -19,6 +19,7 @@ use crate::hex::hex_bytes;
 use crate::orders::{Order, fed_by, is_skipped, order_of_line};
 use qm_base::NoMemory;
 use qm_core::{Cause, EntryList, Input, Limits, Monitor, Offer, RequestName, StepFault, World};
+use sqlite_items::Boxed;
 use std::alloc::Global;
 use std::marker::Model;
 
@@ -27,7 +28,7 @@ use std::marker::Model;
 pub struct Player {
     monitor: Monitor,
     /// Of each session its feeder, from the first bytes on until it is closed.
-    feeders: Vec<Option<Feeder>>,
+    feeders: Vec<Option<Boxed<Feeder>>>,
 }
 
 impl Model for Player {
@@ -114,27 +115,27 @@ fn stop_told(fault: Option<StepFault>) -> Result<Option<Stop>, NoMemory>
 /// Feeds more bytes.
 fn fed_more(
     alloc: Global,
-    feeder: Option<Feeder>,
+    feeder: Option<Boxed<Feeder>>,
     bytes: &[u8],
     ending: &[u8],
-) -> Result<Feeder, NoMemory>
+) -> Result<Boxed<Feeder>, NoMemory>
     ensures { IfOk result (λ more. more ≡ fed_of feeder ++ (bytes.now ++ ending.now)) }
 {
     let feeder = match feeder {
-        Some(feeder) => feeder,
+        Some(feeder) => feeder.into_inner(),
         None => Feeder::new(alloc)?,
     };
     let feeder = feeder.fed(alloc, bytes)?;
-    feeder.fed(alloc, ending)
+    Ok(Boxed::new(alloc, feeder.fed(alloc, ending)?)?)
 }
 
 /// The input of a place of those that a feeder was fed.
-fn input_at(feeder: &Option<Feeder>, place: u64) -> Result<Option<Input>, NoMemory>
+fn input_at(feeder: &Option<Boxed<Feeder>>, place: u64) -> Result<Option<Input>, NoMemory>
     ensures value { IfOk result (λ input. input ≡ slice_get (fed_inputs_of (fed_of feeder.now)) place) }
     ensures clean { IfOk result (λ input. IfSome input IsCleanInput) }
 {
     match feeder {
-        Some(feeder) => feeder.input(place),
+        Some(feeder) => feeder.get().input(place),
         None => Ok(None),
     }
 }
@@ -176,10 +177,10 @@ impl Player {
         }
     }
 
-    /// The place of a session, or why it takes nothing: it was never opened, or is closed.
-    fn place(&self, session: u32) -> Result<usize, Stop>
+    /// That a session takes more, or why it takes nothing: it was never opened, or is closed.
+    fn going(&self, session: u32) -> Result<(), Stop>
         ensures stop { result_err result ≡ closed_stop self.now session }
-        ensures place { IfOk result (TakesMore self.now session) }
+        ensures takes { OnOk result (TakesMore self.now session) }
     {
         if !self.monitor.is_known(session) {
             return Err(Stop::Step(StepWord::NoSession));
@@ -187,21 +188,20 @@ impl Player {
         if self.monitor.is_closed(session) {
             return Err(Stop::Step(StepWord::Closed));
         }
-        Ok(session as usize - 1)
+        Ok(())
     }
 
     fn feed_at(
         &mut self,
         alloc: Global,
         session: u32,
-        place: usize,
         bytes: &[u8],
         ending: &[u8],
     ) -> Result<(), NoMemory>
-        requires { TakesMore self.old session place }
+        requires { TakesMore self.old session }
         ensures { OnOk result (FedTurns self.old session (bytes.now ++ ending.now) None self.new) }
     {
-        let _session = session;
+        let place = session as usize - 1;
         let feeder = self.feeders[place].take();
         self.feeders[place] = Some(fed_more(alloc, feeder, bytes, ending)?);
         Ok(())
@@ -216,10 +216,10 @@ impl Player {
     ) -> Result<Option<Stop>, NoMemory>
         ensures { IfOk result (λ stop. FedTurns self.old session (bytes.now ++ ending.now) stop self.new) }
     {
-        match self.place(session) {
+        match self.going(session) {
             Err(stop) => Ok(Some(stop)),
-            Ok(place) => {
-                self.feed_at(alloc, session, place, bytes, ending)?;
+            Ok(()) => {
+                self.feed_at(alloc, session, bytes, ending)?;
                 Ok(None)
             }
         }
@@ -237,11 +237,12 @@ impl Player {
         self.feed(alloc, session, bytes.as_slice(), b"")
     }
 
-    fn next_input(&self, session: u32, place: usize) -> Result<Option<Input>, NoMemory>
-        requires { TakesMore self.now session place }
+    fn next_input(&self, session: u32) -> Result<Option<Input>, NoMemory>
+        requires { TakesMore self.now session }
         ensures value { IfOk result (λ input. input ≡ next_input_of self.now session) }
         ensures clean { IfOk result (λ input. IfSome input IsCleanInput) }
     {
+        let place = session as usize - 1;
         input_at(&self.feeders[place], self.monitor.admitted(session))
     }
 
@@ -258,16 +259,11 @@ impl Player {
         Ok(stop_for(self.monitor.admit(session, &mut offer).err()))
     }
 
-    fn admit_at(
-        &mut self,
-        alloc: Global,
-        session: u32,
-        place: usize,
-    ) -> Result<Option<Stop>, NoMemory>
-        requires { TakesMore self.old session place }
+    fn admit_at(&mut self, alloc: Global, session: u32) -> Result<Option<Stop>, NoMemory>
+        requires { TakesMore self.old session }
         ensures { IfOk result (λ stop. AdmitTurns self.old session stop self.new) }
     {
-        match self.next_input(session, place)? {
+        match self.next_input(session)? {
             Some(input) => self.admit_input(alloc, session, input),
             None => Ok(Some(Stop::Step(StepWord::NoFrame))),
         }
@@ -276,9 +272,9 @@ impl Player {
     fn admit(&mut self, alloc: Global, session: u32) -> Result<Option<Stop>, NoMemory>
         ensures { IfOk result (λ stop. AdmitTurns self.old session stop self.new) }
     {
-        match self.place(session) {
+        match self.going(session) {
             Err(stop) => Ok(Some(stop)),
-            Ok(place) => self.admit_at(alloc, session, place),
+            Ok(()) => self.admit_at(alloc, session),
         }
     }
 
@@ -334,17 +330,10 @@ impl Player {
         )
     }
 
-    fn oob_at(
-        &mut self,
-        alloc: Global,
-        session: u32,
-        place: usize,
-        moment: u64,
-    ) -> Result<Option<Stop>, NoMemory>
-        requires { TakesMore self.old session place }
+    fn oob_at(&mut self, alloc: Global, session: u32, moment: u64) -> Result<Option<Stop>, NoMemory>
+        requires { TakesMore self.old session }
         ensures { IfOk result (λ stop. OobTurns self.old session moment stop self.new) }
     {
-        let _place = place;
         match self.monitor.open_out_of_band(session) {
             Some(request) => self.finish_out_of_band(alloc, session, request.number, moment),
             None => Ok(Some(Stop::Step(StepWord::NotOpen))),
@@ -354,9 +343,9 @@ impl Player {
     fn oob(&mut self, alloc: Global, session: u32, moment: u64) -> Result<Option<Stop>, NoMemory>
         ensures { IfOk result (λ stop. OobTurns self.old session moment stop self.new) }
     {
-        match self.place(session) {
+        match self.going(session) {
             Err(stop) => Ok(Some(stop)),
-            Ok(place) => self.oob_at(alloc, session, place, moment),
+            Ok(()) => self.oob_at(alloc, session, moment),
         }
     }
 
@@ -372,13 +361,13 @@ impl Player {
         stop_for(self.monitor.end(session).err())
     }
 
-    fn drop_at(&mut self, session: u32, place: usize, cause: Cause) -> Option<Stop>
-        requires { TakesMore self.old session place }
+    fn drop_at(&mut self, session: u32, cause: Cause) -> Option<Stop>
+        requires { TakesMore self.old session }
         ensures { DropTurns self.old session cause result self.new }
     {
         match self.monitor.drop_session(session, cause) {
             Ok(()) => {
-                self.feeders[place] = None;
+                self.feeders[session as usize - 1] = None;
                 None
             }
             Err(fault) => Some(stop_of(fault)),
@@ -388,9 +377,9 @@ impl Player {
     fn drop_session(&mut self, session: u32, cause: Cause) -> Option<Stop>
         ensures { DropTurns self.old session cause result self.new }
     {
-        match self.place(session) {
+        match self.going(session) {
             Err(stop) => Some(stop),
-            Ok(place) => self.drop_at(session, place, cause),
+            Ok(()) => self.drop_at(session, cause),
         }
     }
 

@@ -1,4 +1,4 @@
-use Rattle.std.proofs.Common.{◌<◌, ◌∙◌, List, Option, ℕ, ap, arith, length, map, sym, subst}
+use Rattle.std.proofs.Common.{◌<◌, ◌-◌, ◌∙◌, List, Option, ℕ, ap, arith, length, map, refl, sym, subst}
 use Rattle.std.specs.List.{slice_get}
 use Rattle.std.proofs.lemmas.List.{length-map}
 use Rattle.std.proofs.lemmas.Result.{IfOk-weaker}
@@ -8,10 +8,11 @@ use Rattle.qm_script.proofs.player.Player.next_input.Goals as goal
 
 pub returns-clause-value : goal.returns-clause-value
 returns-clause-value c =
+    let place = c.args.session - 1 in
     let items = c.self.inside.feeders.items in
-    let seen : c.args.place < length (map fed_of items) = subst (λ (p : Playing). c.args.place < length p.played.fed) (sym c.self.view_is) c.requires.within in
-    let within : c.args.place < length items = omega (arith, seen, length-map items fed_of) in
+    let seen : place < length (map fed_of items) = subst (λ (p : Playing). place < length p.played.fed) (sym c.self.view_is) c.requires.within in
+    let within : place < length items = omega (arith, seen, length-map items fed_of) in
     let found = ap (λ (f : Option (List ℕ)). slice_get (fed_inputs_of (fed_of f)) c.admitted.result) c.index.ensures in
     IfOk-weaker c.input_at.result _ _
-    (λ input is. is ∙ found ∙ next_of_fed c.args.self.now c.self.inside.monitor items c.args.session c.args.place c.admitted.result c.index.result.now c.self.view_is c.requires.at within c.admitted.ensures)
+    (λ input is. is ∙ found ∙ next_of_fed c.args.self.now c.self.inside.monitor items c.args.session place c.admitted.result c.index.result.now c.self.view_is refl within c.admitted.ensures)
     c.input_at.ensures.value

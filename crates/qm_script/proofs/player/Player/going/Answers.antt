@@ -3,7 +3,7 @@ use Rattle.std.proofs.lemmas.List.{length-map}
 use Rattle.qm_core.specs.{Legal.past_of, Standing.was_opened}
 use Rattle.qm_script.specs.{Kept.fed_of, Players.Playing}
 use Rattle.qm_script.proofs.SessionLemmas.{tested_stop}
-use Rattle.qm_script.proofs.player.Player.place.Goals as goal
+use Rattle.qm_script.proofs.player.Player.going.Goals as goal
 
 pub returns-then-not-is_known-clause-stop : goal.returns-then-not-is_known-clause-stop
 returns-then-not-is_known-clause-stop c =
@@ -22,8 +22,8 @@ returns-clause-stop c =
     let more : c.is_closed.result ≡ false = search rules in
     tested_stop c.args.self.now c.self.inside.monitor c.self.inside.feeders.items c.args.session true false c.self.view_is (sym c.is_known.ensures.known ∙ known) (sym c.is_closed.ensures ∙ more)
 
-pub returns-clause-place : goal.returns-clause-place
-returns-clause-place c =
+pub returns-clause-takes : goal.returns-clause-takes
+returns-clause-takes c =
     let known : c.is_known.result ≡ true = search rules in
     let more : c.is_closed.result ≡ false = search rules in
     let counted = c.is_known.ensures.counted known in
@@ -32,6 +32,6 @@ returns-clause-place c =
     record {
       going = sym (tested_stop c.args.self.now c.self.inside.monitor items c.args.session true false c.self.view_is (sym c.is_known.ensures.known ∙ known) (sym c.is_closed.ensures ∙ more));
       known = subst (λ (p : Playing). was_opened c.args.session (past_of p.played.journal) ≡ true) c.self.view_is (sym c.is_known.ensures.known ∙ known);
-      at = refl;
+      low = counted.0;
       within = subst (λ (p : Playing). c.args.session - 1 < length p.played.fed) c.self.view_is within;
     }
