@@ -164,8 +164,7 @@ impl Machine {
         let changes = jobs.work(alloc)?;
         let mut raised = RaisedList::new(alloc);
         tell_changes(alloc, world, changes.as_slice(), &mut raised)?;
-        let Sending { lines, throttle } =
-            tick_all(alloc, world, &self.throttle, raised, moment)?;
+        let Sending { lines, throttle } = tick_all(alloc, world, &self.throttle, raised, moment)?;
         Ok(Ticked {
             events: lines,
             change: Change {

@@ -4,7 +4,7 @@ use Rattle.std.specs.Fmt.{decimal}
 use Rattle.std.specs.List.{flat_map}
 use Rattle.std.proofs.lemmas.List.{length-map}
 use Rattle.qm_core.specs.Texts.{entry_text_of, taken_text_of, text_from}
-use Rattle.qm_core.specs.declared.entries.Entry.{Entry, TheVariants.Open, TheVariants.Admit, TheVariants.Start, TheVariants.Done, TheVariants.OobDone, TheVariants.Take, TheVariants.Eof, TheVariants.Drop}
+use Rattle.qm_core.specs.declared.entries.Entry.{Entry, TheVariants.Open, TheVariants.Admit, TheVariants.Start, TheVariants.Done, TheVariants.OobDone, TheVariants.Tick, TheVariants.Take, TheVariants.Eof, TheVariants.Drop}
 use Rattle.qm_history.specs.Histories.{AllHaveText, IsHistory, end_line, whole_text_of, without_plan}
 use Rattle.qm_history.specs.Forms.{said_of, taken_by}
 
@@ -15,6 +15,7 @@ entry_parts n (Admit s k lane input) = simp (append_assoc, append-nil)
 entry_parts n (Start s k) = simp (append_assoc, append-nil)
 entry_parts n (Done s k plan reply moment) = simp (append_assoc, append-nil)
 entry_parts n (OobDone s k plan reply moment) = simp (append_assoc, append-nil)
+entry_parts n (Tick moment) = simp (append_assoc, append-nil)
 entry_parts n (Take s lines) = simp append_assoc
 entry_parts n (Eof s) = simp (append_assoc, append-nil)
 entry_parts n (Drop s cause) = simp (append_assoc, append-nil)
@@ -26,6 +27,7 @@ entry-planless n (Admit s k lane input) = refl
 entry-planless n (Start s k) = refl
 entry-planless n (Done s k plan reply moment) = refl
 entry-planless n (OobDone s k plan reply moment) = refl
+entry-planless n (Tick moment) = refl
 entry-planless n (Take s lines) = refl
 entry-planless n (Eof s) = refl
 entry-planless n (Drop s cause) = refl

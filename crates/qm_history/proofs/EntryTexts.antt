@@ -16,7 +16,7 @@ use Rattle.qm_core.specs.Inputs.{IsCleanInput}
 use Rattle.qm_core.specs.Texts.{bad_word_of, lane_word_of, input_text_of, cause_word_of, cause_of, request_text_of, answer_text_of, taken_text_of, entry_body_of}
 use Rattle.qm_core.specs.declared.entries.Cause.{Cause}
 use Rattle.qm_core.specs.declared.entries.Cause.TheVariants as cause
-use Rattle.qm_core.specs.declared.entries.Entry.TheVariants.{Admit, Take, Eof, Drop}
+use Rattle.qm_core.specs.declared.entries.Entry.TheVariants.{Admit, Tick, Take, Eof, Drop}
 use Rattle.qm_core.specs.declared.inputs.BadInput.{BadInput}
 use Rattle.qm_core.specs.declared.inputs.BadInput.TheVariants as bad
 use Rattle.qm_core.specs.declared.inputs.FrameWord.TheVariants.{LexError, Unbalanced, TooDeep, TooLong}
@@ -124,6 +124,9 @@ pub line-told : (x y a b : List ℕ) → IsLine x → IsLine y → x ++ 10 ∷ a
 line-told x y a b h k e = (cut_runs stays_in_line x y (10 ∷ a) (10 ∷ b) h k refl refl e).0
 
 -- entries by what they say after their number
+
+pub tick-text : (moment : ℕ) (r : List ℕ) → entry_body_of (Tick moment) ++ r ≡ codes " tick @" ++ (decimal moment ++ 10 ∷ r)
+tick-text moment r = simp append_assoc refl
 
 pub eof-text : (s : ℕ) (r : List ℕ) → entry_body_of (Eof s) ++ r ≡ codes " eof " ++ (decimal s ++ 10 ∷ r)
 eof-text s r = simp append_assoc refl

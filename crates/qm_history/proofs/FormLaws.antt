@@ -8,7 +8,7 @@ use Rattle.qm_caps.specs.declared.mode.Lane.{Lane, TheVariants.InBand, TheVarian
 use Rattle.qm_plan.specs.declared.recipes.Plan.{Plan}
 use Rattle.qm_core.specs.Inputs.{IsCleanInput}
 use Rattle.qm_core.specs.Texts.{cause_word_of, input_text_of, lane_word_of, request_text_of}
-use Rattle.qm_core.specs.declared.entries.Entry.{Entry, TheVariants.Open, TheVariants.Admit, TheVariants.Start, TheVariants.Done, TheVariants.OobDone, TheVariants.Take, TheVariants.Eof, TheVariants.Drop}
+use Rattle.qm_core.specs.declared.entries.Entry.{Entry, TheVariants.Open, TheVariants.Admit, TheVariants.Start, TheVariants.Done, TheVariants.OobDone, TheVariants.Tick, TheVariants.Take, TheVariants.Eof, TheVariants.Drop}
 use Rattle.qm_core.specs.declared.inputs.Input.{Input, TheVariants.Doc, TheVariants.Bad}
 use Rattle.qm_history.specs.Lines.{stays_in_line, IsLine, AllLines}
 use Rattle.qm_history.specs.Histories.{HasAnswer, HasInput, HasText, AllHaveText, end_line}
@@ -62,6 +62,7 @@ said-line (Admit s k lane i) h = line-append (codes "admit ") (request_text_of s
 said-line (Start s k) h = line-append (codes "start ") (request_text_of s k) refl (request-line s k)
 said-line (Done s k plan reply moment) h = line-append (codes "done ") (answer_of s k reply moment) refl (answer-line s k plan reply moment h)
 said-line (OobDone s k plan reply moment) h = line-append (codes "oob-done ") (answer_of s k reply moment) refl (answer-line s k plan reply moment h)
+said-line (Tick moment) h = line-append (codes "tick @") (decimal moment) refl (decimal-line moment)
 said-line (Take s lines) h = line-append (codes "take ") (request_text_of s (length lines)) refl (request-line s (length lines))
 said-line (Eof s) h = line-append (codes "eof ") (decimal s) refl (decimal-line s)
 said-line (Drop s cause) h = line-append (codes "drop ") (decimal s ++ codes " " ++ cause_word_of cause) refl (line-append (decimal s ++ codes " ") (cause_word_of cause) (line-append (decimal s) (codes " ") (decimal-line s) refl) (cause-line cause))
@@ -79,6 +80,7 @@ taken-by-each (Admit s k lane i) h = tt
 taken-by-each (Start s k) h = tt
 taken-by-each (Done s k plan reply moment) h = tt
 taken-by-each (OobDone s k plan reply moment) h = tt
+taken-by-each (Tick moment) h = tt
 taken-by-each (Take s lines) h = taken-each lines h.each
 taken-by-each (Eof s) h = tt
 taken-by-each (Drop s cause) h = tt

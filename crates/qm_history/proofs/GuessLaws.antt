@@ -32,12 +32,12 @@ use Rattle.qm_core.specs.declared.inputs.Input.TheVariants as input
 use Rattle.qm_core.specs.declared.inputs.JsonWord.{JsonWord}
 use Rattle.qm_core.specs.declared.inputs.JsonWord.TheVariants.{Expected, Duplicate, BadEscape, BadUtf8}
 use Rattle.qm_core.specs.declared.entries.Cause.{Cause}
-use Rattle.qm_core.specs.declared.entries.Entry.{Entry, TheVariants.Open, TheVariants.Admit, TheVariants.Start, TheVariants.Done, TheVariants.OobDone, TheVariants.Take, TheVariants.Eof, TheVariants.Drop}
+use Rattle.qm_core.specs.declared.entries.Entry.{Entry, TheVariants.Open, TheVariants.Admit, TheVariants.Start, TheVariants.Done, TheVariants.OobDone, TheVariants.Tick, TheVariants.Take, TheVariants.Eof, TheVariants.Drop}
 use Rattle.qm_history.specs.declared.guesses.{Answer.Answer, Head.Head, Head.TheVariants.Whole, Head.TheVariants.Taking}
 use Rattle.qm_history.specs.Words.{before_blank, after_blank, below, session_number}
 use Rattle.qm_history.specs.Histories.{HasName, HasAnswer, HasInput, HasAdmission, HasText, end_line}
 use Rattle.qm_history.specs.Forms.{answer_of, first_line_of, taken_line}
-use Rattle.qm_history.specs.Guesses.{head_of, told_by, head_line_of, IsHead, start_head, take_head, drop_head, moment_in, read_value, value_in, answer_value, answer_moment, answer_number, answer_in, done, oob_done, lane_in, frame_in, json_word, json_in, bad_or, bad_in, document_in, input_in, admit_input, admit_lane, admit_number, admit_head, verb_head, guess, same_line, head_in}
+use Rattle.qm_history.specs.Guesses.{head_of, told_by, head_line_of, IsHead, start_head, take_head, tick_head, drop_head, moment_in, read_value, value_in, answer_value, answer_moment, answer_number, answer_in, done, oob_done, lane_in, frame_in, json_word, json_in, bad_or, bad_in, document_in, input_in, admit_input, admit_lane, admit_number, admit_head, verb_head, guess, same_line, head_in}
 use Rattle.qm_history.proofs.Depths.{deep-long}
 use Rattle.qm_history.proofs.Digits.{all_digits}
 use Rattle.qm_history.proofs.EntryTexts.{cause-found}
@@ -52,6 +52,7 @@ entry-head (Admit s k lane input) h = h
 entry-head (Start s k) h = h
 entry-head (Done s k plan reply moment) h = h
 entry-head (OobDone s k plan reply moment) h = h
+entry-head (Tick moment) h = h
 entry-head (Take s lines) h = h.name
 entry-head (Eof s) h = h
 entry-head (Drop s cause) h = h
@@ -62,6 +63,7 @@ head-line n (Admit s k lane input) = refl
 head-line n (Start s k) = refl
 head-line n (Done s k plan reply moment) = refl
 head-line n (OobDone s k plan reply moment) = refl
+head-line n (Tick moment) = refl
 head-line n (Take s lines) = refl
 head-line n (Eof s) = refl
 head-line n (Drop s cause) = refl
@@ -189,6 +191,7 @@ guessed (Whole (Admit s k l i)) h = by-verb (codes "admit") (request_text_of s k
 guessed (Whole (Start s k)) h = by-verb (codes "start") (request_text_of s k) refl ∙ start-read s k h
 guessed (Whole (Done s k plan reply moment)) h = by-verb (codes "done") (answer_of s k reply moment) refl ∙ done-read s k plan reply moment h
 guessed (Whole (OobDone s k plan reply moment)) h = by-verb (codes "oob-done") (answer_of s k reply moment) refl ∙ oob-read s k plan reply moment h
+guessed (Whole (Tick moment)) h = by-verb (codes "tick") (codes "@" ++ decimal moment) refl ∙ ap (option_map (λ m. Whole (Tick m))) (moment-read moment h)
 guessed (Whole (Take s lines)) h = absurd h
 guessed (Whole (Eof s)) h = by-verb (codes "eof") (decimal s) refl ∙ ap (option_map (λ t. Whole (Eof t))) (session-decimal s h)
 guessed (Whole (Drop s c)) h = by-verb (codes "drop") (decimal s ++ codes " " ++ cause_word_of c) refl ∙ drop-read s c h
@@ -309,10 +312,11 @@ head-good verb text h =
     (λ _. cond_both (bytes_eq verb (codes "start")) _ _ Good (λ _. name-good (λ s k. Whole (Start s k)) text h (λ s k i. i))
     (λ _. cond_both (bytes_eq verb (codes "done")) _ _ Good (λ _. mapped IsHead IsGoodAnswer done (answer_in text) h (answer-good text) (λ a i. i))
     (λ _. cond_both (bytes_eq verb (codes "oob-done")) _ _ Good (λ _. mapped IsHead IsGoodAnswer oob_done (answer_in text) h (answer-good text) (λ a i. i))
+    (λ _. cond_both (bytes_eq verb (codes "tick")) _ _ Good (λ _. mapped IsHead (λ (m : ℕ). m < 2 ^ 64) (λ m. Whole (Tick m)) (moment_in text) h (small-moment text) (λ m i. i))
     (λ _. cond_both (bytes_eq verb (codes "take")) _ _ Good (λ _. name-good (λ s k. Taking s k) text h (λ s k i. i))
     (λ _. cond_both (bytes_eq verb (codes "eof")) _ _ Good (λ _. session-good (λ s. Whole (Eof s)) text h (λ s i. i))
     (λ _. cond_both (bytes_eq verb (codes "drop")) _ _ Good (λ _. drop-good text h)
-    (λ _ e. absurd cc))))))))
+    (λ _ e. absurd cc)))))))))
   where
     Good : Option Head → Type 0
     Good o = o ≡ Some h → IsHead h

@@ -8,24 +8,25 @@ use Rattle.qm_plan.specs.declared.recipes.Plan.{Plan}
 use Rattle.qm_caps.specs.declared.mode.Lane.{Lane}
 use Rattle.qm_core.specs.Answers.{IsAnswered, IsAnswer, AllAnswer}
 use Rattle.qm_core.specs.Legal.{AllFollow, IsLegal}
-use Rattle.qm_core.specs.Order.{MayFollow, MayAdmit, MayStart, MayFinish, MayFinishOob, MayTake, MayEnd, MayDrop}
+use Rattle.qm_core.specs.Order.{MayFollow, MayAdmit, MayStart, MayFinish, MayFinishOob, MayTick, MayTake, MayEnd, MayDrop}
 use Rattle.qm_core.specs.Standing.{is_open, admitted_of, running_of, open_out_of_band_of, starting_of, named_of}
 use Rattle.qm_core.specs.Texts.{lane_word_of, input_text_of, cause_word_of, entry_body_of, text_from, text_of}
 use Rattle.qm_core.specs.Transcript.{untaken_of}
 use Rattle.qm_core.specs.declared.entries.Cause.{Cause}
 use Rattle.qm_core.specs.declared.entries.Entry.{Entry}
-use Rattle.qm_core.specs.declared.entries.Entry.TheVariants.{Open, Admit, Start, Done, OobDone, Take, Eof, Drop}
+use Rattle.qm_core.specs.declared.entries.Entry.TheVariants.{Open, Admit, Start, Done, OobDone, Tick, Take, Eof, Drop}
 use Rattle.qm_core.specs.declared.inputs.Input.{Input}
 use Rattle.qm_core.specs.declared.requests.{Request.Request, RequestName.RequestName}
 use Rattle.qm_core.specs.declared.world.World.{World}
+use Rattle.qm_core.proofs.Coming.{AllCome, comes}
 use Rattle.qm_core.proofs.Journals.{earlier}
 use Rattle.qm_core.proofs.Pasts.{open_opened, opened-within, few-sessions}
 use Rattle.qm_history.proofs.Cuts.{first_of}
 use Rattle.qm_history.proofs.Digits.{number-told}
-use Rattle.qm_history.proofs.EntryTexts.{cause-told, cause-line, lane-told, input-told, input-line, line-told, eof-text, drop-text, take-text, answer-front, answer-text, session-front, admit-text}
+use Rattle.qm_history.proofs.EntryTexts.{cause-told, cause-line, lane-told, input-told, input-line, line-told, eof-text, drop-text, take-text, tick-text, answer-front, answer-text, session-front, admit-text}
 
 -- sessions have few numbers
-open_small : (s : ℕ) (past : List Entry) → AllFollow past → is_open s past ≡ true → s < 2 ^ 64
+open_small : (s : ℕ) (past : List Entry) → AllCome past → is_open s past ≡ true → s < 2 ^ 64
 open_small s past legal h = omega (arith, (opened-within s past legal (open_opened s past h)).1, few-sessions past legal)
 
 -- two entries, of which each may come next, and texts after theirs
@@ -40,6 +41,7 @@ data Sort : ℕ → Entry → Type 0 where
   starts : (s k : ℕ) → Sort 29556 (Start s k)
   finishes : (s k : ℕ) (plan : Option Plan) (reply : Json) (moment : ℕ) → Sort 25711 (Done s k plan reply moment)
   overtakes : (s k : ℕ) (plan : Option Plan) (reply : Json) (moment : ℕ) → Sort 28527 (OobDone s k plan reply moment)
+  ticks : (moment : ℕ) → Sort 29801 (Tick moment)
   takes : (s : ℕ) (lines : List (List ℕ)) → Sort 29793 (Take s lines)
   ends : (s : ℕ) → Sort 25967 (Eof s)
   drops : (s : ℕ) (cause : Cause) → Sort 25714 (Drop s cause)
@@ -54,6 +56,7 @@ sort_of (Admit s k lane input) r = admits s k lane input
 sort_of (Start s k) r = starts s k
 sort_of (Done s k plan reply moment) r = finishes s k plan reply moment
 sort_of (OobDone s k plan reply moment) r = overtakes s k plan reply moment
+sort_of (Tick moment) r = ticks moment
 sort_of (Take s lines) r = takes s lines
 sort_of (Eof s) r = ends s
 sort_of (Drop s cause) r = drops s cause
@@ -81,7 +84,7 @@ moment-told word s k t j reply other m n r w session number h i e =
     let after = append_cancel_left (answer-front word s k) _ _ (e ∙ ap (λ (l : List ℕ). l ++ (decimal n ++ 32 ∷ (printed other ++ 10 ∷ w))) (sym front)) in
     (number-told m n 32 32 _ _ h i refl refl after).0
 
-module _ (world : World) (past : List Entry) (legal : AllFollow past) where
+module _ (world : World) (past : List Entry) (legal : AllCome past) where
   admit-tells : (s k t j : ℕ) (lane other : Lane) (i o : Input) (r w : List ℕ) → MayAdmit past s k lane i → MayAdmit past t j other o → Meets (Admit s k lane i) (Admit t j other o) r w → Admit s k lane i ≡ Admit t j other o
   admit-tells s k t j lane other i o r w may can e =
       let first = number-told s t 32 32 _ _ (open_small s past legal may.is_open) (open_small t past legal can.is_open) refl refl (ap (λ (l : List ℕ). drop 7 l) (sym (admit-text s k lane i r) ∙ e ∙ admit-text t j other o w)) in
@@ -111,17 +114,21 @@ module _ (world : World) (past : List Entry) (legal : AllFollow past) where
       let moments : m ≡ n = moment-told (codes " oob-done ") s k t j reply other m n r w session same.1 may.timed.below can.timed.below texts in
       rw (session, same.1, answer.0, answer.1, moments) refl
 
-  take-tells : (s t : ℕ) (lines others : List (List ℕ)) (r w : List ℕ) → MayTake past s lines → MayTake past t others → Meets (Take s lines) (Take t others) r w → Take s lines ≡ Take t others
+  take-tells : (s t : ℕ) (lines others : List (List ℕ)) (r w : List ℕ) → MayTake world past s lines → MayTake world past t others → Meets (Take s lines) (Take t others) r w → Take s lines ≡ Take t others
   take-tells s t lines others r w may can e =
       let first = number-told s t 32 32 _ _ (open_small s past legal may.is_open) (open_small t past legal can.is_open) refl refl (ap (λ (l : List ℕ). drop 6 l) (sym (take-text s lines r) ∙ e ∙ take-text t others w)) in
-      let same : lines ≡ others = may.all ∙ ap (λ (u : ℕ). untaken_of u past) first.0 ∙ sym can.all in
+      let same : lines ≡ others = may.all ∙ ap (λ (u : ℕ). untaken_of world u past) first.0 ∙ sym can.all in
       rw (first.0, same) refl
+
+  tick-tells : (m n : ℕ) (r w : List ℕ) → MayTick world past m → MayTick world past n → Meets (Tick m) (Tick n) r w → Tick m ≡ Tick n
+  tick-tells m n r w may can e =
+      ap (λ (u : ℕ). Tick u) (number-told m n 10 10 _ _ may.timed.below can.timed.below refl refl (ap (λ (l : List ℕ). drop 7 l) (sym (tick-text m r) ∙ e ∙ tick-text n w))).0
 
   end-tells : (s t : ℕ) (r w : List ℕ) → MayEnd past s → MayEnd past t → Meets (Eof s) (Eof t) r w → Eof s ≡ Eof t
   end-tells s t r w may can e =
       ap (λ (u : ℕ). Eof u) (number-told s t 10 10 _ _ (open_small s past legal may.is_open) (open_small t past legal can.is_open) refl refl (ap (λ (l : List ℕ). drop 5 l) (sym (eof-text s r) ∙ e ∙ eof-text t w))).0
 
-  drop-tells : (s t : ℕ) (c d : Cause) (r w : List ℕ) → MayDrop past s c → MayDrop past t d → Meets (Drop s c) (Drop t d) r w → Drop s c ≡ Drop t d
+  drop-tells : (s t : ℕ) (c d : Cause) (r w : List ℕ) → MayDrop world past s c → MayDrop world past t d → Meets (Drop s c) (Drop t d) r w → Drop s c ≡ Drop t d
   drop-tells s t c d r w may can e =
       let first = number-told s t 32 32 _ _ (open_small s past legal may.is_open) (open_small t past legal can.is_open) refl refl (ap (λ (l : List ℕ). drop 6 l) (sym (drop-text s c r) ∙ e ∙ drop-text t d w)) in
       let same : c ≡ d = cause-told c d (line-told (cause_word_of c) (cause_word_of d) r w (cause-line c) (cause-line d) (ap (λ (l : List ℕ). drop 1 l) first.1)) in
@@ -130,18 +137,19 @@ module _ (world : World) (past : List Entry) (legal : AllFollow past) where
   start-tells : (s k t j : ℕ) → MayStart past s k → MayStart past t j → Start s k ≡ Start t j
   start-tells s k t j may can = let same = named (named_of (starting_of past)) s k t j may.turn can.turn in rw (same.0, same.1) refl
 
-  sorted-tells : {n : ℕ} (e f : Entry) → Sort n e → Sort n f → MayFollow past e → MayFollow past f → IsAnswer world past e → IsAnswer world past f → (r t : List ℕ) → Meets e f r t → e ≡ f
+  sorted-tells : {n : ℕ} (e f : Entry) → Sort n e → Sort n f → MayFollow world past e → MayFollow world past f → IsAnswer world past e → IsAnswer world past f → (r t : List ℕ) → Meets e f r t → e ≡ f
   sorted-tells e f (opens s) (opens t) may can tells told r w m = ap (λ (u : ℕ). Open u) (may.next ∙ sym can.next)
   sorted-tells e f (admits s k lane i) (admits t j other o) may can tells told r w m = admit-tells s k t j lane other i o r w may can m
   sorted-tells e f (starts s k) (starts t j) may can tells told r w m = start-tells s k t j may can
   sorted-tells e f (finishes s k plan reply moment) (finishes t j scheme other n) may can tells told r w m = finish-tells s k t j plan scheme reply other moment n r w may can tells told m
   sorted-tells e f (overtakes s k plan reply moment) (overtakes t j scheme other n) may can tells told r w m = overtake-tells s k t j plan scheme reply other moment n r w may can tells told m
+  sorted-tells e f (ticks m) (ticks n) may can tells told r w meets = tick-tells m n r w may can meets
   sorted-tells e f (takes s lines) (takes t others) may can tells told r w m = take-tells s t lines others r w may can m
   sorted-tells e f (ends s) (ends t) may can tells told r w m = end-tells s t r w may can m
   sorted-tells e f (drops s c) (drops t d) may can tells told r w m = drop-tells s t c d r w may can m
 
   -- of two entries that may come next, texts that begin alike tell that they are one
-  entry-told : (e f : Entry) → MayFollow past e → MayFollow past f → IsAnswer world past e → IsAnswer world past f → (r t : List ℕ) → Meets e f r t → (e ≡ f) × (r ≡ t)
+  entry-told : (e f : Entry) → MayFollow world past e → MayFollow world past f → IsAnswer world past e → IsAnswer world past f → (r t : List ℕ) → Meets e f r t → (e ≡ f) × (r ≡ t)
   entry-told e f may can tells told r t m =
       let same : e ≡ f = sorted-tells e f (sort_of e r) (subst (λ (n : ℕ). Sort n f) (sym (ap tag_of m)) (sort_of f t)) may can tells told r t m in
       (same, append_cancel_left (entry_body_of e) r t (m ∙ ap (λ (x : Entry). entry_body_of x ++ t) (sym same)))
@@ -150,7 +158,7 @@ module _ (world : World) (past : List Entry) (legal : AllFollow past) where
 
 abbrev EachFollows : World → List Entry → List Entry → Type 0
 EachFollows world past [] = Unit {0}
-EachFollows world past (e ∷ journal) = MayFollow past e × IsAnswer world past e × EachFollows world (e ∷ past) journal
+EachFollows world past (e ∷ journal) = MayFollow world past e × IsAnswer world past e × EachFollows world (e ∷ past) journal
 
 -- the past of a journal, from its first entry on
 pub turned : (e : Entry) (journal past : List Entry) → reverse (e ∷ journal) ++ past ≡ reverse journal ++ e ∷ past
@@ -160,12 +168,12 @@ answers-earlier : (world : World) (later past : List Entry) → AllAnswer world 
 answers-earlier world [] past h = h
 answers-earlier world (x ∷ later) past h = answers-earlier world later past h.1
 
-each-follows : (world : World) (journal past : List Entry) → AllFollow (reverse journal ++ past) → AllAnswer world (reverse journal ++ past) → EachFollows world past journal
+each-follows : (world : World) (journal past : List Entry) → AllFollow world (reverse journal ++ past) → AllAnswer world (reverse journal ++ past) → EachFollows world past journal
 each-follows world [] past legal answers = tt
 each-follows world (e ∷ journal) past legal answers =
-    let all : AllFollow (reverse journal ++ e ∷ past) = subst AllFollow (turned e journal past) legal in
+    let all : AllFollow world (reverse journal ++ e ∷ past) = subst (AllFollow world) (turned e journal past) legal in
     let each : AllAnswer world (reverse journal ++ e ∷ past) = subst (λ l. AllAnswer world l) (turned e journal past) answers in
-    ((earlier (reverse journal) (e ∷ past) all).0, (answers-earlier world (reverse journal) (e ∷ past) each).0, each-follows world journal (e ∷ past) all each)
+    ((earlier world (reverse journal) (e ∷ past) all).0, (answers-earlier world (reverse journal) (e ∷ past) each).0, each-follows world journal (e ∷ past) all each)
 
 says : (e : Entry) → first_of (entry_body_of e) ≡ 32
 says (Open s) = refl
@@ -173,6 +181,7 @@ says (Admit s k lane input) = refl
 says (Start s k) = refl
 says (Done s k plan reply moment) = refl
 says (OobDone s k plan reply moment) = refl
+says (Tick moment) = refl
 says (Take s lines) = refl
 says (Eof s) = refl
 says (Drop s cause) = refl
@@ -182,14 +191,14 @@ not_empty [] [] rest h e = cc
 not_empty [] (x ∷ text) rest h e = cc
 not_empty (y ∷ front) text rest h e = cc
 
-journal-told : (world : World) (n : ℕ) (past journal other : List Entry) → AllFollow past → EachFollows world past journal → EachFollows world past other → text_from n journal ≡ text_from n other → journal ≡ other
+journal-told : (world : World) (n : ℕ) (past journal other : List Entry) → AllCome past → EachFollows world past journal → EachFollows world past other → text_from n journal ≡ text_from n other → journal ≡ other
 journal-told world n past [] [] legal h k e = refl
 journal-told world n past [] (f ∷ other) legal h k e = absurd (not_empty (decimal n) (entry_body_of f) (text_from (n + 1) other) (says f) e)
 journal-told world n past (e ∷ journal) [] legal h k m = absurd (not_empty (decimal n) (entry_body_of e) (text_from (n + 1) journal) (says e) (sym m))
 journal-told world n past (e ∷ journal) (f ∷ other) legal h k m =
     let here = entry-told world past legal e f h.0 k.0 h.1 k.1 (text_from (n + 1) journal) (text_from (n + 1) other)
     (append_cancel_left (decimal n) _ _ (sym (append_assoc (decimal n) (entry_body_of e) (text_from (n + 1) journal)) ∙ m ∙ append_assoc (decimal n) (entry_body_of f) (text_from (n + 1) other))) in
-    let rest : journal ≡ other = journal-told world (n + 1) (e ∷ past) journal other (h.0, legal) h.2 (subst (λ (x : Entry). EachFollows world (x ∷ past) other) (sym here.0) k.2) here.1 in
+    let rest : journal ≡ other = journal-told world (n + 1) (e ∷ past) journal other (comes world past e h.0, legal) h.2 (subst (λ (x : Entry). EachFollows world (x ∷ past) other) (sym here.0) k.2) here.1 in
     ap (λ (x : Entry). x ∷ journal) here.0 ∙ ap (λ (l : List Entry). f ∷ l) rest
 
 -- legal journals with one text are one
@@ -200,4 +209,4 @@ text-told world one other legal lawful e =
     from-start : (journal : List Entry) → IsLegal world journal → EachFollows world [] journal
     from-start journal h =
         let all : reverse journal ≡ reverse journal ++ [] = sym (append-nil (reverse journal)) in
-        each-follows world journal [] (subst AllFollow all h.ordered) (subst (λ l. AllAnswer world l) all h.answered)
+        each-follows world journal [] (subst (AllFollow world) all h.ordered) (subst (λ l. AllAnswer world l) all h.answered)

@@ -6,7 +6,7 @@ use Rattle.std.specs.Str.{bytes_eq}
 use Rattle.std.proofs.lemmas.Bool.{cond-true, cond-false}
 use Rattle.std.proofs.lemmas.List.{map-append}
 use Rattle.std.proofs.lemmas.Slice.Eq.{bytes_eq-Decides}
-use Rattle.qm_core.specs.declared.entries.Entry.{Entry, TheVariants.Open, TheVariants.Admit, TheVariants.Start, TheVariants.Done, TheVariants.OobDone, TheVariants.Take, TheVariants.Eof, TheVariants.Drop}
+use Rattle.qm_core.specs.declared.entries.Entry.{Entry, TheVariants.Open, TheVariants.Admit, TheVariants.Start, TheVariants.Done, TheVariants.OobDone, TheVariants.Tick, TheVariants.Take, TheVariants.Eof, TheVariants.Drop}
 use Rattle.qm_history.specs.declared.guesses.{Head.Head, Head.TheVariants.Whole, Head.TheVariants.Taking}
 use Rattle.qm_history.specs.declared.reading.Reading.{Reading, TheVariants.Between, TheVariants.Within, TheVariants.Ended}
 use Rattle.qm_history.specs.Guesses.{head_line_of, IsHead, head_in}
@@ -53,6 +53,7 @@ entry-taken entries (Admit s k lane input) rest has = whole-taken entries (Admit
 entry-taken entries (Start s k) rest has = whole-taken entries (Start s k) rest has
 entry-taken entries (Done s k plan reply moment) rest has = whole-taken entries (Done s k plan reply moment) rest has
 entry-taken entries (OobDone s k plan reply moment) rest has = whole-taken entries (OobDone s k plan reply moment) rest has
+entry-taken entries (Tick moment) rest has = whole-taken entries (Tick moment) rest has
 entry-taken entries (Eof s) rest has = whole-taken entries (Eof s) rest has
 entry-taken entries (Drop s cause) rest has = whole-taken entries (Drop s cause) rest has
 
@@ -142,6 +143,7 @@ whole-text (Admit s k lane input) h = (h, refl)
 whole-text (Start s k) h = (h, refl)
 whole-text (Done s k plan reply moment) h = (h, refl)
 whole-text (OobDone s k plan reply moment) h = (h, refl)
+whole-text (Tick moment) h = (h, refl)
 whole-text (Take s lines) h = absurd h
 whole-text (Eof s) h = (h, refl)
 whole-text (Drop s cause) h = (h, refl)

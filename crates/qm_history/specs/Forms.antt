@@ -3,7 +3,7 @@ use Rattle.std.specs.Prelude.{◌≡◌, ℕ, ◌+◌, List, [], ◌∷◌, ◌+
 use Rattle.std.specs.Fmt.{decimal}
 use Rattle.qm_json.specs.{Printing.printed, declared.value.Json.Json}
 use Rattle.qm_core.specs.Texts.{cause_word_of, input_text_of, lane_word_of, request_text_of}
-use Rattle.qm_core.specs.declared.entries.Entry.{Entry, TheVariants.Open, TheVariants.Admit, TheVariants.Start, TheVariants.Done, TheVariants.OobDone, TheVariants.Take, TheVariants.Eof, TheVariants.Drop}
+use Rattle.qm_core.specs.declared.entries.Entry.{Entry, TheVariants.Open, TheVariants.Admit, TheVariants.Start, TheVariants.Done, TheVariants.OobDone, TheVariants.Tick, TheVariants.Take, TheVariants.Eof, TheVariants.Drop}
 use Rattle.qm_history.specs.Histories.{AllHaveText, end_line}
 
 -- a request and its reply
@@ -17,6 +17,7 @@ said_of (Admit s k lane input) = codes "admit " ++ (request_text_of s k ++ codes
 said_of (Start s k) = codes "start " ++ request_text_of s k
 said_of (Done s k plan reply moment) = codes "done " ++ answer_of s k reply moment
 said_of (OobDone s k plan reply moment) = codes "oob-done " ++ answer_of s k reply moment
+said_of (Tick moment) = codes "tick @" ++ decimal moment
 said_of (Take s lines) = codes "take " ++ request_text_of s (length lines)
 said_of (Eof s) = codes "eof " ++ decimal s
 said_of (Drop s cause) = codes "drop " ++ (decimal s ++ codes " " ++ cause_word_of cause)

@@ -7,7 +7,7 @@ use Rattle.qm_json.specs.declared.value.Json.{Json}
 use Rattle.qm_read.specs.{declared.fault.JsonFault.JsonFault, Faults.reading_within}
 use Rattle.qm_caps.specs.declared.mode.Lane.{Lane, TheVariants.InBand, TheVariants.Oob}
 use Rattle.qm_core.specs.Texts.{cause_of, frame_word_of, lane_word_of, request_text_of}
-use Rattle.qm_core.specs.declared.entries.Entry.{Entry, TheVariants.Open, TheVariants.Admit, TheVariants.Start, TheVariants.Done, TheVariants.OobDone, TheVariants.Take, TheVariants.Eof, TheVariants.Drop}
+use Rattle.qm_core.specs.declared.entries.Entry.{Entry, TheVariants.Open, TheVariants.Admit, TheVariants.Start, TheVariants.Done, TheVariants.OobDone, TheVariants.Tick, TheVariants.Take, TheVariants.Eof, TheVariants.Drop}
 use Rattle.qm_core.specs.declared.inputs.{BadInput.BadInput, FrameWord.FrameWord, Input.Input, JsonWord.JsonWord}
 use Rattle.qm_core.specs.declared.inputs.BadInput.TheVariants as bad
 use Rattle.qm_core.specs.declared.inputs.FrameWord.TheVariants.{LexError, Unbalanced, TooDeep, TooLong}
@@ -56,6 +56,10 @@ drop_head text = option_and_then (λ s. option_map (λ c. Whole (Drop s c)) (cau
 -- `@M`
 abbrev pub moment_in : List ℕ → Option ℕ
 moment_in text = if starts_with nat_eq text (codes "@") then number_of (drop 1 text) else None
+
+-- `@M`
+abbrev pub tick_head : List ℕ → Option Head
+tick_head text = option_map (λ m. Whole (Tick m)) (moment_in text)
 
 abbrev pub read_value : Result Json JsonFault → Option Json
 read_value (Ok value) = Some value
@@ -146,6 +150,7 @@ verb_head verb text =
     else if bytes_eq verb (codes "start") then start_head text
     else if bytes_eq verb (codes "done") then option_map done (answer_in text)
     else if bytes_eq verb (codes "oob-done") then option_map oob_done (answer_in text)
+    else if bytes_eq verb (codes "tick") then tick_head text
     else if bytes_eq verb (codes "take") then take_head text
     else if bytes_eq verb (codes "eof") then eof_head text
     else if bytes_eq verb (codes "drop") then drop_head text

@@ -6,9 +6,10 @@ use Rattle.qm_json.specs.{Cleanness.IsClean, declared.value.Json.Json}
 use Rattle.qm_caps.specs.declared.mode.Lane.{Lane, TheVariants.InBand, TheVariants.Oob}
 use Rattle.qm_plan.specs.declared.recipes.Plan.{Plan}
 use Rattle.qm_core.specs.Inputs.{IsPlaceable}
-use Rattle.qm_core.specs.Texts.{text_of}
-use Rattle.qm_core.specs.declared.entries.Entry.{Entry, TheVariants.Open, TheVariants.Admit, TheVariants.Start, TheVariants.Done, TheVariants.OobDone, TheVariants.Take, TheVariants.Eof, TheVariants.Drop}
+use Rattle.qm_core.specs.{Events.event_lines_of, State.events_at, Texts.text_of}
+use Rattle.qm_core.specs.declared.entries.Entry.{Entry, TheVariants.Open, TheVariants.Admit, TheVariants.Start, TheVariants.Done, TheVariants.OobDone, TheVariants.Tick, TheVariants.Take, TheVariants.Eof, TheVariants.Drop}
 use Rattle.qm_core.specs.declared.inputs.Input.{Input, TheVariants.Doc, TheVariants.Bad}
+use Rattle.qm_core.specs.declared.world.World.{World}
 use Rattle.qm_history.specs.Lines.{AllLines, lines_of}
 use Rattle.qm_history.specs.declared.reading.HistoryRefusal.{HistoryRefusal, TheVariants.Line, TheVariants.Memory}
 
@@ -56,6 +57,7 @@ HasText (Admit s k lane input) = HasAdmission s k lane input
 HasText (Start s k) = HasName s k
 HasText (Done s k plan reply moment) = HasAnswer s k plan reply moment
 HasText (OobDone s k plan reply moment) = HasAnswer s k plan reply moment
+HasText (Tick moment) = moment < 2 ^ 64
 HasText (Take s lines) = HasLines s lines
 HasText (Eof s) = s < 2 ^ 32
 HasText (Drop s cause) = s < 2 ^ 32
@@ -73,6 +75,11 @@ HasCleanReply e = Unit {0}
 abbrev pub AllHaveCleanReplies : List Entry → Type 0
 AllHaveCleanReplies [] = Unit {0}
 AllHaveCleanReplies (e ∷ entries) = HasCleanReply e × AllHaveCleanReplies entries
+
+-- no LF stands in the lines of the events that are sent in a past, as none does where their data is clean
+abbrev pub AllHaveEventLines : World → List Entry → Type 0
+AllHaveEventLines world [] = Unit {0}
+AllHaveEventLines world (e ∷ past) = AllLines (event_lines_of world (events_at world past e)) × AllHaveEventLines world past
 
 -- the line after the entries, which counts them
 abbrev pub end_line : ℕ → List ℕ

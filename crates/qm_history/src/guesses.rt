@@ -3,7 +3,7 @@ ghost use Rattle.std.specs.Option.{option_copied};
 ghost use Rattle.std.specs.Str.{bytes_eq};
 ghost use Rattle.qm_core.specs.Texts.{frame_word_of, lane_word_of};
 ghost use Rattle.qm_core.specs.declared.inputs.Input.TheVariants.{Bad};
-ghost use Rattle.qm_history.specs.Guesses.{admit_head as admit_head_of, admit_input as admit_input_of, admit_lane as admit_lane_of, admit_number as admit_number_of, answer_in as answer_in_of, answer_moment as answer_moment_of, answer_number as answer_number_of, answer_value as answer_value_of, bad_in, document_in, done as done_of, drop_head as drop_head_of, eof_head as eof_head_of, frame_in, guess as guess_of, head_in as head_in_of, head_line_of, input_in, json_in, json_word as json_word_in, lane_in, moment_in, oob_done as oob_done_of, open_head as open_head_of, same_line, start_head as start_head_of, take_head as take_head_of, told_by, value_in, verb_head as verb_head_of};
+ghost use Rattle.qm_history.specs.Guesses.{admit_head as admit_head_of, admit_input as admit_input_of, admit_lane as admit_lane_of, admit_number as admit_number_of, answer_in as answer_in_of, answer_moment as answer_moment_of, answer_number as answer_number_of, answer_value as answer_value_of, bad_in, document_in, done as done_of, drop_head as drop_head_of, eof_head as eof_head_of, frame_in, guess as guess_of, head_in as head_in_of, head_line_of, input_in, json_in, json_word as json_word_in, lane_in, moment_in, oob_done as oob_done_of, open_head as open_head_of, same_line, start_head as start_head_of, take_head as take_head_of, tick_head as tick_head_of, told_by, value_in, verb_head as verb_head_of};
 
 use crate::texts::{put_number, put_said, put_word_request};
 use crate::words::{after_blank, before_blank, session};
@@ -94,6 +94,13 @@ fn value(alloc: Global, text: &[u8]) -> Result<Option<Json>, NoMemory>
         Err(JsonFault::Memory) => Err(NoMemory),
         Err(_) => Ok(None),
     }
+}
+
+fn tick_head(text: &[u8]) -> Option<Head>
+    ensures { result ≡ tick_head_of text.now }
+{
+    let moment = moment(text)?;
+    Some(Head::Whole(Entry::Tick { moment }))
 }
 
 fn answer_value(
@@ -356,6 +363,9 @@ fn verb_head(alloc: Global, verb: &[u8], text: &[u8]) -> Result<Option<Head>, No
     }
     if verb == b"oob-done".as_slice() {
         return oob_done(alloc, text);
+    }
+    if verb == b"tick".as_slice() {
+        return Ok(tick_head(text));
     }
     if verb == b"take".as_slice() {
         return Ok(take_head(text));

@@ -1,11 +1,11 @@
 //! Laws of texts of journals.
 
 ghost use Rattle.std.specs.Prelude.{◌≡◌, ◌<◌, ◌^◌, ℕ, List, length, map};
-ghost use Rattle.qm_core.specs.Legal.{IsLegal};
+ghost use Rattle.qm_core.specs.Legal.{IsLegal, past_of};
 ghost use Rattle.qm_core.specs.Texts.{text_of};
 ghost use Rattle.qm_core.specs.declared.entries.Entry.{Entry};
 ghost use Rattle.qm_core.specs.declared.world.World.{World};
-ghost use Rattle.qm_history.specs.Histories.{AllHaveCleanReplies, AllHaveText, FirstWrong, IsHistory, whole_text_of, without_plan};
+ghost use Rattle.qm_history.specs.Histories.{AllHaveCleanReplies, AllHaveEventLines, AllHaveText, FirstWrong, IsHistory, whole_text_of, without_plan};
 
 /// Legal journals of one world that differ have different texts.
 pub fn text_determines_the_journal()
@@ -15,12 +15,12 @@ pub fn text_determines_the_journal()
 
 /// The text of a journal, with its last line, is the history of its entries without their plans,
 /// where each of these has a text. So is that of a legal journal of fewer than 2^64 entries, where
-/// its replies are clean.
+/// its replies are clean and no LF stands in the lines of its events.
 pub fn each_journal_is_told_by_its_text()
     ensures any { (journal : List Entry) → AllHaveText (map without_plan journal) →
         IsHistory (whole_text_of journal) (map without_plan journal) }
     ensures legal { (world : World) (journal : List Entry) → IsLegal world journal →
-        length journal < 2 ^ 64 → AllHaveCleanReplies journal →
+        length journal < 2 ^ 64 → AllHaveCleanReplies journal → AllHaveEventLines world (past_of journal) →
         IsHistory (whole_text_of journal) (map without_plan journal) }
 {}
 

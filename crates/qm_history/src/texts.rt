@@ -173,6 +173,7 @@ pub(crate) fn put_said(out: &mut Text, entry: &Entry) -> Result<(), NoMemory>
             reply,
             moment,
         } => { put_word_answer(out, b"oob-done ", *session, *number, reply, *moment) }
+        Entry::Tick { moment } => put_place(out, b"tick @", *moment),
         Entry::Take { session, lines } => {
             put_word_request(out, b"take ", *session, lines.len() as u64)
         }

@@ -84,8 +84,13 @@ fn answer_to(
         plan,
     )?;
     let line = line(alloc, &value)?;
-    let Sending { lines, throttle } =
-        raise_all(alloc, world.world(), &machine.throttle, raised, moment)?;
+    let Sending { lines, throttle } = raise_all(
+        alloc,
+        world.world(),
+        &machine.throttle,
+        raised,
+        moment,
+    )?;
     let returns = replies::is_return(&value);
     Ok(Answer {
         reply: value,
@@ -238,14 +243,7 @@ impl Monitor {
         )?;
         let bytes = self.finish_room(session, number, &plan, &answer.reply, moment)?;
         let at = session as usize - 1;
-        tell_answer(
-            alloc,
-            &mut self.sessions,
-            at,
-            &answer,
-            Lane::InBand,
-            &plan,
-        )?;
+        tell_answer(alloc, &mut self.sessions, at, &answer, Lane::InBand, &plan)?;
         self.stopped = answer.stops | self.stopped;
         self.machine.commit(answer.change);
         self.running = None;

@@ -15,8 +15,7 @@ use crate::inputs::Input;
 use crate::monitor::Monitor;
 use crate::outbox::Outbox;
 use crate::sizes::{
-    admit_size, done_size, eof_size, oob_done_size, open_size, start_size, take_size,
-    tick_size,
+    admit_size, done_size, eof_size, oob_done_size, open_size, start_size, take_size, tick_size,
 };
 use qm_caps::Lane;
 use qm_json::Json;

@@ -33,8 +33,7 @@ impl Monitor {
             return Err(StepFault::Nothing);
         }
         let bytes = self.tick_room(moment)?;
-        let Ticked { events, change } =
-            self.machine.ticked(alloc, self.world.world(), moment)?;
+        let Ticked { events, change } = self.machine.ticked(alloc, self.world.world(), moment)?;
         tell_all(alloc, &mut self.sessions, &events)?;
         self.machine.commit(change);
         self.last_moment = moment;
