@@ -62,6 +62,7 @@ ordered_legal world limits played line (Some (order.Feed s)) small legal = fed_l
 ordered_legal world limits played line (Some (order.Admit s)) small legal = admit_legal world limits played s (session_refusal s (past_of played.journal) None) legal
 ordered_legal world limits played line (Some order.Start) small legal = core_legal world limits played step.Start tt legal
 ordered_legal world limits played line (Some (order.Finish moment)) small legal = finish_legal world limits played moment (named_of (running_of (past_of played.journal))) small legal
+ordered_legal world limits played line (Some (order.Tick moment)) small legal = core_legal world limits played (step.Tick moment) small legal
 ordered_legal world limits played line (Some (order.Oob s moment)) small legal = oob_legal world limits played s moment (session_refusal s (past_of played.journal) None) small legal
 ordered_legal world limits played line (Some (order.Take s)) small legal = core_legal world limits played (step.Take s) tt legal
 ordered_legal world limits played line (Some (order.Eof s)) small legal = core_legal world limits played (step.End s) tt legal

@@ -54,6 +54,10 @@ pub finish_ordered : (self new : Playing) (line : List ℕ) (asked : Order) (mom
 unfolding FinishTurns
 finish_ordered self new line asked moment stop is turns = at_order self new line asked (order.Finish moment) stop is turns
 
+pub tick_ordered : (self new : Playing) (line : List ℕ) (asked : Order) (moment : ℕ) (stop : Option Stop) → asked ≡ order.Tick moment → StepTurns self (step.Tick moment) stop new → OrderTurns self line asked stop new
+unfolding StepTurns
+tick_ordered self new line asked moment stop is turns = at_order self new line asked (order.Tick moment) stop is turns
+
 pub oob_ordered : (self new : Playing) (line : List ℕ) (asked : Order) (s moment : ℕ) (stop : Option Stop) → asked ≡ order.Oob s moment → OobTurns self s moment stop new → OrderTurns self line asked stop new
 unfolding OobTurns
 oob_ordered self new line asked s moment stop is turns = at_order self new line asked (order.Oob s moment) stop is turns

@@ -7,7 +7,7 @@ use Rattle.qm_core.specs.{Texts.cause_of, declared.entries.Cause.Cause}
 use Rattle.qm_history.specs.Words.{after_blank, before_blank, is_blank, session_number}
 use Rattle.qm_script.specs.Orders.{after_word, drop_order, feed_order, is_hex, long_order_of, oob_order, order_of, session_after, text_order}
 use Rattle.qm_script.specs.declared.orders.Order.{Order}
-use Rattle.qm_script.specs.declared.orders.Order.TheVariants.{Open, Text, Feed, Admit, Start, Finish, Oob, Take, Eof, Drop}
+use Rattle.qm_script.specs.declared.orders.Order.TheVariants.{Open, Text, Feed, Admit, Start, Finish, Tick, Oob, Take, Eof, Drop}
 
 abbrev pub IsSmall : Order → Type 0
 IsSmall Open = Unit {0}
@@ -16,6 +16,7 @@ IsSmall (Feed s) = Unit {0}
 IsSmall (Admit s) = Unit {0}
 IsSmall Start = Unit {0}
 IsSmall (Finish moment) = moment < 2 ^ 64
+IsSmall (Tick moment) = moment < 2 ^ 64
 IsSmall (Oob s moment) = moment < 2 ^ 64
 IsSmall (Take s) = Unit {0}
 IsSmall (Eof s) = Unit {0}
@@ -65,6 +66,10 @@ finished : (text : Option (List ℕ)) → IfSome (option_map Finish (option_and_
 finished None = tt
 finished (Some text) = moment Finish (number_of text) (λ m h. h) (number-small text)
 
+ticked : (text : Option (List ℕ)) → IfSome (option_map Tick (option_and_then number_of text)) IsSmall
+ticked None = tt
+ticked (Some text) = moment Tick (number_of text) (λ m h. h) (number-small text)
+
 ended : (session moment : Option ℕ) → IfSome moment (λ m. m < 2 ^ 64) → IfSome (option_and_then (λ s. option_map (λ m. Oob s m) moment) session) IsSmall
 ended None n small = tt
 ended (Some s) n small = moment (λ m. Oob s m) n (λ m h. h) small
@@ -80,7 +85,8 @@ order-small line =
     (either _ _ (then_each feed_order (after_word (codes "feed ") line) feed-small)
     (either _ _ (each Admit (session_after (codes "admit ") line) (λ s. tt))
     (either _ _ (finished (after_word (codes "finish ") line))
+    (either _ _ (ticked (after_word (codes "tick ") line))
     (either _ _ (then_each oob_order (after_word (codes "oob ") line) oob-small)
     (either _ _ (each Take (session_after (codes "take ") line) (λ s. tt))
     (either _ _ (each Eof (session_after (codes "eof ") line) (λ s. tt))
-    (then_each drop_order (after_word (codes "drop ") line) (λ text. dropped (session_number (before_blank text)) (cause_of (after_blank text))))))))))))
+    (then_each drop_order (after_word (codes "drop ") line) (λ text. dropped (session_number (before_blank text)) (cause_of (after_blank text)))))))))))))

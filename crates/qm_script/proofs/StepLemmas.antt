@@ -58,6 +58,7 @@ opens_none world past (step.Admit s input) none = refl
 opens_none world past step.Start none = start_opens_none (named_of (starting_of past)) past
 opens_none world past (step.Finish s k moment) none = refl
 opens_none world past (step.FinishOob s k moment) none = refl
+opens_none world past (step.Tick moment) none = refl
 opens_none world past (step.Take s) none = refl
 opens_none world past (step.End s) none = refl
 opens_none world past (step.Drop s cause) none = refl

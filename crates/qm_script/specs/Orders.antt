@@ -4,7 +4,7 @@ use Rattle.std.specs.{List.starts_with, List.list_all, Option.option_and_then, O
 use Rattle.qm_base.specs.Numerals.{number_of}
 use Rattle.qm_core.specs.Texts.{cause_of}
 use Rattle.qm_history.specs.Words.{after_blank, before_blank, is_blank, session_number}
-use Rattle.qm_script.specs.declared.orders.Order.{Order, TheVariants.Open, TheVariants.Text, TheVariants.Feed, TheVariants.Admit, TheVariants.Start, TheVariants.Finish, TheVariants.Oob, TheVariants.Take, TheVariants.Eof, TheVariants.Drop}
+use Rattle.qm_script.specs.declared.orders.Order.{Order, TheVariants.Open, TheVariants.Text, TheVariants.Feed, TheVariants.Admit, TheVariants.Start, TheVariants.Finish, TheVariants.Tick, TheVariants.Oob, TheVariants.Take, TheVariants.Eof, TheVariants.Drop}
 
 -- what follows a word at the front of a line
 abbrev pub after_word : List ℕ → List ℕ → Option (List ℕ)
@@ -54,10 +54,11 @@ long_order_of line =
     (option_or (option_and_then feed_order (after_word (codes "feed ") line))
     (option_or (option_map Admit (session_after (codes "admit ") line))
     (option_or (option_map Finish (option_and_then number_of (after_word (codes "finish ") line)))
+    (option_or (option_map Tick (option_and_then number_of (after_word (codes "tick ") line)))
     (option_or (option_and_then oob_order (after_word (codes "oob ") line))
     (option_or (option_map Take (session_after (codes "take ") line))
     (option_or (option_map Eof (session_after (codes "eof ") line))
-    (option_and_then drop_order (after_word (codes "drop ") line))))))))
+    (option_and_then drop_order (after_word (codes "drop ") line)))))))))
 
 -- the order of a line; None for any other line
 abbrev pub order_of : List ℕ → Option Order

@@ -75,6 +75,7 @@ ordered world limits played line (Some (order.Feed s)) = fed_step played s (hex_
 ordered world limits played line (Some (order.Admit s)) = admit_step world limits played s (session_refusal s (past_of played.journal) None)
 ordered world limits played line (Some order.Start) = core_step world limits played step.Start
 ordered world limits played line (Some (order.Finish moment)) = finish_step world limits played moment (named_of (running_of (past_of played.journal)))
+ordered world limits played line (Some (order.Tick moment)) = core_step world limits played (step.Tick moment)
 ordered world limits played line (Some (order.Oob s moment)) = oob_step world limits played s moment (session_refusal s (past_of played.journal) None)
 ordered world limits played line (Some (order.Take s)) = core_step world limits played (step.Take s)
 ordered world limits played line (Some (order.Eof s)) = core_step world limits played (step.End s)

@@ -2,7 +2,7 @@ ghost use Rattle.std.specs.Prelude.{◌≡◌, position, option_map, codes, Opti
 ghost use Rattle.qm_history.specs.Words.{is_blank};
 ghost use Rattle.std.specs.Option.{option_copied, option_and_then};
 ghost use Rattle.qm_script.specs.Orders.{after_word as after_word_of, session_after as session_after_of, long_order_of, text_order as text_order_of, feed_order as feed_order_of, oob_order as oob_order_of, drop_order as drop_order_of, order_of, is_skipped as is_skipped_line, fed_by as fed_by_of};
-ghost use Rattle.qm_script.specs.declared.orders.Order.TheVariants.{Admit, Finish, Take, Eof};
+ghost use Rattle.qm_script.specs.declared.orders.Order.TheVariants.{Admit, Finish, Tick, Take, Eof};
 ghost use Rattle.qm_base.specs.Numerals.{number_of};
 
 use crate::hex::is_hex;
@@ -25,6 +25,8 @@ pub enum Order {
     Start,
     /// `finish M`: finishes the running request at a moment, in microseconds.
     Finish(u64),
+    /// `tick M`: lets the clock come to a moment, in microseconds.
+    Tick(u64),
     /// `oob S M`: finishes the request of a session that is open out of band, at a moment.
     Oob(u32, u64),
     /// `take S`: hands out the lines of a session.
@@ -107,6 +109,12 @@ fn finish_line(line: &[u8]) -> Option<Order>
     Some(Order::Finish(number(after_word(b"finish ", line)?)?))
 }
 
+fn tick_line(line: &[u8]) -> Option<Order>
+    ensures { result ≡ option_map Tick (option_and_then number_of (after_word_of (codes "tick ") line.now)) }
+{
+    Some(Order::Tick(number(after_word(b"tick ", line)?)?))
+}
+
 fn oob_line(line: &[u8]) -> Option<Order>
     ensures { result ≡ option_and_then oob_order_of (after_word_of (codes "oob ") line.now) }
 {
@@ -140,9 +148,9 @@ fn eof_line(line: &[u8]) -> Option<Order>
 fn long_order(line: &[u8]) -> Option<Order>
     ensures { result ≡ long_order_of line.now }
 {
-    text_line(line).or(feed_line(line).or(admit_line(line).or(finish_line(line).or(oob_line(
+    text_line(line).or(feed_line(line).or(admit_line(line).or(finish_line(line).or(tick_line(
         line,
-    ).or(take_line(line).or(eof_line(line).or(drop_line(line))))))))
+    ).or(oob_line(line).or(take_line(line).or(eof_line(line).or(drop_line(line)))))))))
 }
 
 /// The order of a line of a script; None for any other line.

@@ -1,7 +1,7 @@
 ghost use Rattle.std.specs.Prelude.{◌≡◌, ◌≢◌, ◌≤◌, ◌++◌, true, slice_get, IfOk, OnOk, IfSome, Some, None, option_map};
 ghost use Rattle.std.specs.Result.{result_err};
 ghost use Rattle.qm_core.specs.Legal.{past_of};
-ghost use Rattle.qm_core.specs.Next.{Start, Take, End, Finish, FinishOob};
+ghost use Rattle.qm_core.specs.Next.{Start, Take, Tick, End, Finish, FinishOob};
 ghost use Rattle.qm_core.specs.Next as step;
 ghost use Rattle.qm_core.specs.Standing.{was_opened};
 ghost use Rattle.qm_core.specs.declared.TheConstants.{MOST_ENTRIES, MOST_TEXT};
@@ -311,6 +311,12 @@ impl Player {
         }
     }
 
+    fn tick(&mut self, alloc: Global, moment: u64) -> Result<Option<Stop>, NoMemory>
+        ensures { IfOk result (λ stop. StepTurns self.old (Tick moment) stop self.new) }
+    {
+        stop_told(self.monitor.tick(alloc, moment).err())
+    }
+
     fn finish_out_of_band(
         &mut self,
         alloc: Global,
@@ -398,6 +404,7 @@ impl Player {
             Order::Admit(session) => self.admit(alloc, session),
             Order::Start => Ok(self.start()),
             Order::Finish(moment) => self.finish(alloc, moment),
+            Order::Tick(moment) => self.tick(alloc, moment),
             Order::Oob(session, moment) => self.oob(alloc, session, moment),
             Order::Take(session) => Ok(self.take(session)),
             Order::Eof(session) => Ok(self.end(session)),

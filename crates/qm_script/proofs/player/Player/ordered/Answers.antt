@@ -1,5 +1,5 @@
 use Rattle.std.proofs.lemmas.Result.{IfOk-weaker}
-use Rattle.qm_script.proofs.LineSteps.{open_ordered, text_ordered, feed_ordered, admit_ordered, start_ordered, finish_ordered, oob_ordered, take_ordered, eof_ordered, drop_ordered}
+use Rattle.qm_script.proofs.LineSteps.{open_ordered, text_ordered, feed_ordered, admit_ordered, start_ordered, finish_ordered, tick_ordered, oob_ordered, take_ordered, eof_ordered, drop_ordered}
 use Rattle.qm_script.proofs.player.Player.ordered.Goals as goal
 
 pub returns-in-Open : goal.returns-in-Open
@@ -19,6 +19,9 @@ returns-in-Start c = start_ordered c.args.self.now c.start.new.self c.args.line.
 
 pub returns-in-Finish : goal.returns-in-Finish
 returns-in-Finish c = IfOk-weaker c.finish.result _ _ (λ stop. finish_ordered c.args.self.now c.finish.new.self c.args.line.now c.args.order c.in-Finish.moment stop c.in-Finish.is) c.finish.ensures
+
+pub returns-in-Tick : goal.returns-in-Tick
+returns-in-Tick c = IfOk-weaker c.tick.result _ _ (λ stop. tick_ordered c.args.self.now c.tick.new.self c.args.line.now c.args.order c.in-Tick.moment stop c.in-Tick.is) c.tick.ensures
 
 pub returns-in-Oob : goal.returns-in-Oob
 returns-in-Oob c = IfOk-weaker c.oob.result _ _ (λ stop. oob_ordered c.args.self.now c.oob.new.self c.args.line.now c.args.order c.in-Oob.session c.in-Oob.moment stop c.in-Oob.is) c.oob.ensures
