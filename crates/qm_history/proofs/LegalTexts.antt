@@ -146,8 +146,7 @@ few-untaken world s (Take t lines ∷ past) legal = taken (t == s) (few-untaken 
   taken : (b : Bool) → IsFew (untaken_of world s past) → IsFew (drop (length (cond b (taken_of s past ++ lines) (taken_of s past))) (transcript_of world s past))
   taken true few =
       let count = length-append (taken_of s past) lines in
-      let same : length lines + length (taken_of s past) ≡ length (taken_of s past ++ lines) = omega (arith, count) in
-      subst (λ (n : ℕ). IsFew (drop n (transcript_of world s past))) same
+      subst (λ (n : ℕ). IsFew (drop n (transcript_of world s past))) (sym count)
       (subst IsFew (drop-drop (length lines) (length (taken_of s past)) (transcript_of world s past)) (few-left (length lines) (untaken_of world s past) few))
   taken false few = few
 few-untaken world s (Eof t ∷ past) legal = few-untaken world s past legal.1
