@@ -14,5 +14,5 @@ pub fn each_script_plays_a_legal_journal()
     ensures legal { (world : World) (limits : Limits) (script : List ℕ) →
         IsLegal world (journal_of world limits script) }
     ensures begins { (world : World) (limits : Limits) (s : ℕ) (script : List ℕ) →
-        (let past = past_of (journal_of world limits script) in IsPrefix (taken_of s past) (transcript_of s past)) }
+        (let past = past_of (journal_of world limits script) in IsPrefix (taken_of s past) (transcript_of world s past)) }
 {}

@@ -8,4 +8,4 @@ pub returns-clause-legal : goal.returns-clause-legal
 returns-clause-legal c = λ world limits script. script_legal world limits script
 
 pub returns-clause-begins : goal.returns-clause-begins
-returns-clause-begins c = λ world limits s script. taken_first s (past_of (journal_of world limits script)) (script_legal world limits script).ordered
+returns-clause-begins c = λ world limits s script. taken_first world s (past_of (journal_of world limits script)) (script_legal world limits script).ordered
