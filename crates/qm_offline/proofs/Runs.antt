@@ -218,19 +218,13 @@ journal-legal None outside = refl
 journal-legal (Some w) outside = over_journal-legal w outside.files (world_for w outside)
 
 -- and what each session was handed begins its transcript
-empty_begins : (journal : List Entry) → journal ≡ [] → (s : ℕ) → IsPrefix (taken_of s (past_of journal)) (transcript_of s (past_of journal))
-empty_begins journal empty s =
-    subst (λ (j : List Entry). IsPrefix (taken_of s (past_of j)) (transcript_of s (past_of j))) (sym empty) (taken_first s [] tt)
+over_begins : (answer : Result World FileFault) (journal : List Entry) → IsLegalOver answer journal → BeginsOver answer journal
+over_begins (Ok world) journal legal = λ s. taken_first world s (past_of journal) legal.ordered
+over_begins (Err fault) journal legal = tt
 
-over_begins : (answer : Result World FileFault) (journal : List Entry) → IsLegalOver answer journal → (s : ℕ) →
-    IsPrefix (taken_of s (past_of journal)) (transcript_of s (past_of journal))
-over_begins (Ok world) journal legal s = taken_first s (past_of journal) legal.ordered
-over_begins (Err fault) journal legal s = empty_begins journal legal s
-
-legal_begins : (words : Option Words) (outside : Outside) (journal : List Entry) → IsLegalFor words outside journal → (s : ℕ) →
-    IsPrefix (taken_of s (past_of journal)) (transcript_of s (past_of journal))
-legal_begins None outside journal legal s = empty_begins journal legal s
-legal_begins (Some w) outside journal legal s = over_begins (world_for w outside) journal legal s
+legal_begins : (words : Option Words) (outside : Outside) (journal : List Entry) → IsLegalFor words outside journal → BeginsFor words outside journal
+legal_begins None outside journal legal = tt
+legal_begins (Some w) outside journal legal = over_begins (world_for w outside) journal legal
 
 -- status and bytes are those of the output
 abbrev IsPlain : Outside → Ran → ℕ → Type 0

@@ -88,13 +88,23 @@ abbrev pub IsLegalFor : Option Words → Outside → List Entry → Type 0
 IsLegalFor None outside journal = journal ≡ []
 IsLegalFor (Some w) outside journal = IsLegalOver (world_for w outside) journal
 
+-- what each session was handed begins its transcript over a world; without one nothing was
+abbrev pub BeginsOver : Result World FileFault → List Entry → Type 0
+BeginsOver (Ok world) journal = (s : ℕ) → (let past = past_of journal in IsPrefix (taken_of s past) (transcript_of world s past))
+BeginsOver (Err fault) journal = Unit {0}
+
+-- over the world of words; for other words nothing was
+abbrev pub BeginsFor : Option Words → Outside → List Entry → Type 0
+BeginsFor None outside journal = Unit {0}
+BeginsFor (Some w) outside journal = BeginsOver (world_for w outside) journal
+
 pub record Answers (ran : Ran) (status : ℕ) : Type 0 where
   pub outside : Outside
   pub stood : Stood ran outside
   pub gives : Gives outside ran status
   -- the journal that was played is legal, and what each session was handed begins its transcript
   pub legal : IsLegalFor ran.words outside (journal_for ran.words outside)
-  pub begins : (s : ℕ) → (let past = past_of (journal_for ran.words outside) in IsPrefix (taken_of s past) (transcript_of s past))
+  pub begins : BeginsFor ran.words outside (journal_for ran.words outside)
   -- 2 exactly where the words are outside the grammar
   pub usage_only : status ≡ 2 → ran.words ≡ None
   pub usage : ran.words ≡ None → status ≢ 1 → status ≢ 7 → status ≡ 2
